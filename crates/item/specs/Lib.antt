@@ -1,0 +1,5 @@
+pub mod Maxima
+pub mod Counter
+pub mod Item
+pub mod Row
+pub mod Tests

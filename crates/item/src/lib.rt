@@ -1,0 +1,204 @@
+// Counters, tags, items and rows, and every comparison of them that the layers above use: nobody above compares
+// their fields by hand. Everything is proved, no public function has a `requires`, and each gives what one
+// definition of specs/ says.
+ghost use mathlib.Core.Path.{_≡_};
+ghost use Rattle.item.specs.Counter.{indexBelow, indexAtLargest, nextIndex, sameIncarnation, incarnationAtLargest, nextIncarnation, sameAttempt, attemptAtLargest, nextAttempt, earlier};
+ghost use Rattle.item.specs.Item.{tagsAgree, ranksBelow, sameItem, zeroItem};
+ghost use Rattle.item.specs.Row.{sameRow, zeroRow};
+
+// The most nodes that a group may have, and so the rows that a node keeps.
+pub const MAX_NODES: usize = 15;
+
+// The number of a write. An index, an incarnation and an attempt are separate counters.
+pub struct Index(pub u64);
+
+// How often a node has started, counted from 1.
+pub struct Incarnation(pub u32);
+
+// How often a node has sent a write in its present incarnation.
+pub struct Attempt(pub u32);
+
+// What a write stores beside its index: the caller's digest, never computed with.
+pub struct Tag(pub u64);
+
+// An item (a term of document 01): an index with a tag.
+pub struct Item {
+    pub index: Index,
+    pub tag: Tag,
+}
+
+// A row (a term of document 01): an item with the writer's incarnation and attempt that last stored it, and whether
+// its greatest index has come with two tags.
+pub struct Row {
+    pub item: Item,
+    pub incarnation: Incarnation,
+    pub attempt: Attempt,
+    pub marked: bool,
+}
+
+impl Index {
+    // Whether this index is below the other.
+    pub fn below(self, other: Index) -> bool
+        ensures { λ r. ⌜ r ≡ indexBelow self other ⌝ }
+    {
+        self.0 < other.0
+    }
+
+    // Whether no index is above this one.
+    pub fn at_largest(self) -> bool
+        ensures { λ r. ⌜ r ≡ indexAtLargest self ⌝ }
+    {
+        self.0 == 18446744073709551615
+    }
+
+    // The index one above; the largest stays.
+    pub fn next(self) -> Index
+        ensures { λ r. ⌜ r ≡ nextIndex self ⌝ }
+    {
+        if self.0 == 18446744073709551615 {
+            return self;
+        }
+        Index(self.0 + 1)
+    }
+}
+
+impl Incarnation {
+    // Whether the two are equal.
+    pub fn same(self, other: Incarnation) -> bool
+        ensures { λ r. ⌜ r ≡ sameIncarnation self other ⌝ }
+    {
+        self.0 == other.0
+    }
+
+    // Whether no incarnation is above this one.
+    pub fn at_largest(self) -> bool
+        ensures { λ r. ⌜ r ≡ incarnationAtLargest self ⌝ }
+    {
+        self.0 == 4294967295
+    }
+
+    // The incarnation one above; the largest stays.
+    pub fn next(self) -> Incarnation
+        ensures { λ r. ⌜ r ≡ nextIncarnation self ⌝ }
+    {
+        if self.0 == 4294967295 {
+            return self;
+        }
+        Incarnation(self.0 + 1)
+    }
+}
+
+impl Attempt {
+    // Whether the two are equal.
+    pub fn same(self, other: Attempt) -> bool
+        ensures { λ r. ⌜ r ≡ sameAttempt self other ⌝ }
+    {
+        self.0 == other.0
+    }
+
+    // Whether no attempt is above this one.
+    pub fn at_largest(self) -> bool
+        ensures { λ r. ⌜ r ≡ attemptAtLargest self ⌝ }
+    {
+        self.0 == 4294967295
+    }
+
+    // The attempt one above; the largest stays.
+    pub fn next(self) -> Attempt
+        ensures { λ r. ⌜ r ≡ nextAttempt self ⌝ }
+    {
+        if self.0 == 4294967295 {
+            return self;
+        }
+        Attempt(self.0 + 1)
+    }
+}
+
+// Whether one pair of counters is earlier than another: by incarnation, then by attempt.
+pub fn counters_earlier(
+    incarnation: Incarnation,
+    attempt: Attempt,
+    than_incarnation: Incarnation,
+    than_attempt: Attempt,
+) -> bool
+    ensures { λ r. ⌜ r ≡ earlier incarnation attempt «than_incarnation» «than_attempt» ⌝ }
+{
+    if incarnation.0 < than_incarnation.0 {
+        return true;
+    }
+    if than_incarnation.0 < incarnation.0 {
+        return false;
+    }
+    attempt.0 < than_attempt.0
+}
+
+impl Tag {
+    // The bytes that a tag takes in a record.
+    pub const SIZE: usize = 8;
+
+    // Whether the two tags are equal.
+    pub fn agrees(self, other: Tag) -> bool
+        ensures { λ r. ⌜ r ≡ tagsAgree self other ⌝ }
+    {
+        self.0 == other.0
+    }
+}
+
+impl Item {
+    // Index 0, tag 0: what a node has before anything is settled.
+    pub fn zero() -> Item
+        ensures { λ r. ⌜ r ≡ zeroItem ⌝ }
+    {
+        Item {
+            index: Index(0),
+            tag: Tag(0),
+        }
+    }
+
+    // Whether this item ranks below the other. Items rank by their index.
+    pub fn ranks_below(self, other: Item) -> bool
+        ensures { λ r. ⌜ r ≡ ranksBelow self other ⌝ }
+    {
+        self.index.below(other.index)
+    }
+
+    // Whether the two items are equal, tags included.
+    pub fn same(self, other: Item) -> bool
+        ensures { λ r. ⌜ r ≡ sameItem self other ⌝ }
+    {
+        if self.index.0 != other.index.0 {
+            return false;
+        }
+        self.tag.agrees(other.tag)
+    }
+}
+
+impl Row {
+    // The row of a writer of whom nothing is known.
+    pub fn zero() -> Row
+        ensures { λ r. ⌜ r ≡ zeroRow ⌝ }
+    {
+        Row {
+            item: Item::zero(),
+            incarnation: Incarnation(0),
+            attempt: Attempt(0),
+            marked: false,
+        }
+    }
+
+    // Whether the two rows are equal in every field.
+    pub fn same(self, other: Row) -> bool
+        ensures { λ r. ⌜ r ≡ sameRow self other ⌝ }
+    {
+        if !self.item.same(other.item) {
+            return false;
+        }
+        if !self.incarnation.same(other.incarnation) {
+            return false;
+        }
+        if !self.attempt.same(other.attempt) {
+            return false;
+        }
+        self.marked == other.marked
+    }
+}
