@@ -1,0 +1,10 @@
+pub mod Node
+pub mod Answer
+pub mod Phase
+pub mod Write
+pub mod Storing
+pub mod Merge
+pub mod Fetching
+pub mod Deliver
+pub mod Outgoing
+pub mod Sound
