@@ -1,0 +1,5 @@
+pub mod Replace
+pub mod Majority
+pub mod Rank
+pub mod History
+pub mod View
