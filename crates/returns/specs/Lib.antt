@@ -3,3 +3,5 @@ pub mod Majority
 pub mod Rank
 pub mod History
 pub mod View
+pub mod Merge
+pub mod Change
