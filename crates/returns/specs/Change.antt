@@ -77,6 +77,16 @@ pub record Finishes (v : ViewNode) (n : Note) : Type 0 where
   pub when-up : v .phase ≡ up → n ≡ settles (v .item)
   pub when-returning : v .phase ≡ returning → n ≡ returns (v .item)
 
+-- The messages in the view of x that node p may send when it becomes v: what they say is true of v, or of p before, and an answer answers a
+-- request that was sent.
+abbrev pub MaySend : ℕ → View → ℕ → ViewNode → ViewMessage → Type 0
+MaySend x g p v (storeTo q i a k) = k ≡ v .item
+MaySend x g p v (storedBy q i o a k) = (q ≡ p) × (v .phase ≡ up) × (i ≡ v .incarnation) × (k ≡ v .item)
+MaySend x g p v (confirmTo q i o a k) = (p ≡ x) × (v .stage ≡ confirming) × (i ≡ v .incarnation) × (a ≡ v .attempt)
+MaySend x g p v (confirmedBy q i o a k) = (q ≡ p) × (i ≡ (g .node p) .incarnation) × Sent (confirmTo q o i a k) g
+MaySend x g p v (fetchFrom q to i) = (q ≡ p) × (i ≡ v .incarnation)
+MaySend x g p v (tableFrom q to o r) = (q ≡ p) × (live ((g .node p) .phase) ≡ true) × (r ≡ (g .node p) .item) × Sent (fetchFrom to q o) g
+
 module _ (f x : ℕ) where
   -- node p becomes v, and the call tells the note
   pub data Change (g : View) : Note → ℕ → ViewNode → Type 0 where
@@ -123,24 +133,14 @@ module _ (f x : ℕ) where
     -- of another writer taken by x.
     unchanged : (p : ℕ) (v : ViewNode) → v ≡ g .node p → Change g quiet p v
 
-  -- The messages that node p may send when it becomes v: what they say is true of v, or of p before, and an answer answers a
-  -- request that was sent. Of a message list the view shows only those that bear on row x.
-  abbrev pub MaySend : View → ℕ → ViewNode → ViewMessage → Type 0
-  MaySend g p v (storeTo q i a k) = k ≡ v .item
-  MaySend g p v (storedBy q i o a k) = (q ≡ p) × (v .phase ≡ up) × (i ≡ v .incarnation) × (k ≡ v .item)
-  MaySend g p v (confirmTo q i o a k) = (p ≡ x) × (v .stage ≡ confirming) × (i ≡ v .incarnation) × (a ≡ v .attempt)
-  MaySend g p v (confirmedBy q i o a k) = (q ≡ p) × (i ≡ (g .node p) .incarnation) × Sent (confirmTo q o i a k) g
-  MaySend g p v (fetchFrom q to i) = (q ≡ p) × (i ≡ v .incarnation)
-  MaySend g p v (tableFrom q to o r) = (q ≡ p) × (live ((g .node p) .phase) ≡ true) × (r ≡ (g .node p) .item) × Sent (fetchFrom to q o) g
-
   -- one call: refused (or a Drop), or accepted
   pub data Next (g : View) : Note → View → Type 0 where
     same : Next g quiet g
-    did : {n : Note} {p : ℕ} {v : ViewNode} {ms : List ViewMessage} → Change g n p v → Each (MaySend g p v) ms → Next g n (put g p v ms)
+    did : {n : Note} {p : ℕ} {v : ViewNode} {ms : List ViewMessage} → Change g n p v → Each (MaySend x g p v) ms → Next g n (put g p v ms)
 
   -- `did`, where the nodes afterwards are given as a function that differs at p alone
   pub did-at : (g : View) (n : Note) (p : ℕ) (node′ : ℕ → ViewNode) (ms : List ViewMessage) → ((q : ℕ) → q ≢ p → node′ q ≡ g .node q)
-      → Change g n p (node′ p) → Each (MaySend g p (node′ p)) ms → Next g n (record { node = node′; sent = ms ++ g .sent })
+      → Change g n p (node′ p) → Each (MaySend x g p (node′ p)) ms → Next g n (record { node = node′; sent = ms ++ g .sent })
   did-at g n p node′ ms others c e =
       subst (λ (h : ℕ → ViewNode). Next g n (record { node = h; sent = ms ++ g .sent }))
       (fun-ext (replaced-each (λ q w. w ≡ node′ q) (g .node) p (node′ p) refl (λ q d. sym (others q d)))) (did c e)

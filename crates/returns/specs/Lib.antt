@@ -5,3 +5,4 @@ pub mod History
 pub mod View
 pub mod Merge
 pub mod Change
+pub mod Quorum
