@@ -6,3 +6,5 @@ pub mod View
 pub mod Merge
 pub mod Change
 pub mod Quorum
+pub mod Invariant
+pub mod Turns
