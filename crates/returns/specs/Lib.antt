@@ -8,3 +8,4 @@ pub mod Change
 pub mod Quorum
 pub mod Invariant
 pub mod Turns
+pub mod Items

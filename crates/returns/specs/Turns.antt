@@ -21,10 +21,10 @@ goes-on : (f : ℕ) (g : View) (p : ℕ) (w : ViewNode) → live ((g .node p) .p
 goes-on f g p w l i e k = livesOn (record { same-incarnation = i; was-live = l; is-live = rw e l; stays-up = λ u. e ∙ u }) (rw k (above-refl ((g .node p) .item)))
 
 module _ (f x : ℕ) (h : History) (g : View) (I : Invariant f x h g) where
-  storing-live : (g .node x) .stage ≡ storing → live ((g .node x) .phase) ≡ true
+  pub storing-live : (g .node x) .stage ≡ storing → live ((g .node x) .phase) ≡ true
   storing-live e = writing-live h (g .node x) (I .own) (λ z. clash (cc))
 
-  confirming-live : (g .node x) .stage ≡ confirming → live ((g .node x) .phase) ≡ true
+  pub confirming-live : (g .node x) .stage ≡ confirming → live ((g .node x) .phase) ≡ true
   confirming-live e = writing-live h (g .node x) (I .own) (λ z. clash (cc))
 
   pub turn-of : (n : Note) (p : ℕ) (v : ViewNode) → Change f x g n p v → Turn f g p v
