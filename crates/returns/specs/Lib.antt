@@ -9,3 +9,5 @@ pub mod Quorum
 pub mod Invariant
 pub mod Turns
 pub mod Items
+pub mod Own
+pub mod Confirming

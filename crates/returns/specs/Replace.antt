@@ -2,7 +2,7 @@
 use Prim.Native.Nat.{ℕ, _<_}
 use mathlib.Core.Path.{_≡_, refl, fun-ext}
 use mathlib.Core.Logic.{_≢_}
-use mathlib.Core.Bool.{cond}
+use mathlib.Core.Bool.{Bool, true, false, cond}
 use mathlib.Core.List.{List}
 use lib.ListN.{length, getD, set}
 use lib.Seq.{getD-set-same, getD-set-other}
@@ -23,6 +23,15 @@ replaced-other h p a q d = rw (ne-eqb q p d)
 pub replaced-each : {A : Type 0} (P : ℕ → A → Type 0) (h : ℕ → A) (p : ℕ) (a : A) → P p a → ((q : ℕ) → q ≢ p → P q (h q))
     → (q : ℕ) → P q (replaced h p a q)
 replaced-each P h p a new old q = by-cond (P q) (eqb q p) a (h q) (λ e. rw (eqb-true q p e) new) (λ e. old q (eqb-false q p e))
+
+-- the same for two functions replaced at the same number
+pub replaced-both : {A B : Type 0} (P : ℕ → A → B → Type 0) (h : ℕ → A) (k : ℕ → B) (p : ℕ) (a : A) (b : B) → P p a b
+    → ((q : ℕ) → q ≢ p → P q (h q) (k q)) → (q : ℕ) → P q (replaced h p a q) (replaced k p b q)
+replaced-both P h k p a b new old q = go (eqb q p) refl
+  where
+    go : (t : Bool) → eqb q p ≡ t → P q (replaced h p a q) (replaced k p b q)
+    go true e = rw (eqb-true q p e, eq-eqb p p refl) new
+    go false e = rw e (old q (eqb-false q p e))
 
 -- A list in which one element is set, read as a function through `see`, is the function with one value replaced. It
 -- serves for the table of nodes (see: the view of a node) and for the arrays of a node (see: a flag, an incarnation).
