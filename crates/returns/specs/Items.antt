@@ -113,7 +113,7 @@ module _ (f x : ℕ) (h : History) (g : View) (I : Invariant f x h g) where
       go (inl e) = inl e
       go (inr e) = inr (omega (arith, k .not-far), k .was-begun (omega (arith, k .not-far)))
 
-  item-change : (n : Note) (p : ℕ) (v : ViewNode) → Change f x g n p v → Known (afterNote h n) (v .item)
+  pub item-change : (n : Note) (p : ℕ) (v : ViewNode) → Change f x g n p v → Known (afterNote h n) (v .item)
   item-change n p v (wrote t _ e s b u a k) =
       let i : v .item ≡ oneAbove (h .last) t = k ∙ ap (λ (j : Item). oneAbove j t) ((I .own) .when-idle e s) in
       rw i (record { not-far = omega arith; was-begun = λ z. List·Memᴰ·head refl })

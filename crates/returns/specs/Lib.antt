@@ -11,3 +11,5 @@ pub mod Turns
 pub mod Items
 pub mod Own
 pub mod Confirming
+pub mod Messages
+pub mod Returns

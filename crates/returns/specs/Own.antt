@@ -31,7 +31,7 @@ own-writes h v w o e i dv dw = record {
 }
 
 module _ (f x : ℕ) (h : History) (g : View) (I : Invariant f x h g) where
-  own-change : (n : Note) (p : ℕ) (v : ViewNode) → Change f x g n p v → p ≡ x → Own (afterNote h n) v
+  pub own-change : (n : Note) (p : ℕ) (v : ViewNode) → Change f x g n p v → p ≡ x → Own (afterNote h n) v
   own-change n p v (wrote t _ e s b u a k) z =
       let s′ = b .now-storing in
       record {
