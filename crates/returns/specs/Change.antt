@@ -83,7 +83,7 @@ abbrev pub MaySend : ℕ → View → ℕ → ViewNode → ViewMessage → Type 
 MaySend x g p v (storeTo q i a k) = k ≡ v .item
 MaySend x g p v (storedBy q i o a k) = (q ≡ p) × (v .phase ≡ up) × (i ≡ v .incarnation) × (k ≡ v .item)
 MaySend x g p v (confirmTo q i o a k) = (p ≡ x) × (v .stage ≡ confirming) × (i ≡ v .incarnation) × (a ≡ v .attempt)
-MaySend x g p v (confirmedBy q i o a k) = (q ≡ p) × (i ≡ (g .node p) .incarnation) × Sent (confirmTo q o i a k) g
+MaySend x g p v (confirmedBy q i o a k) = (q ≡ p) × (i ≡ (g .node p) .incarnation) × (under : ℕ) × Sent (confirmTo q o under a k) g
 MaySend x g p v (fetchFrom q to i) = (q ≡ p) × (i ≡ v .incarnation)
 MaySend x g p v (tableFrom q to o r) = (q ≡ p) × (live ((g .node p) .phase) ≡ true) × (r ≡ (g .node p) .item) × Sent (fetchFrom to q o) g
 

@@ -13,3 +13,4 @@ pub mod Own
 pub mod Confirming
 pub mod Messages
 pub mod Returns
+pub mod Example

@@ -7,7 +7,7 @@ use native.Mathlib.Omega.{arith}
 use mathlib.Core.Path.{_≡_, refl, sym, subst}
 use mathlib.Core.Logic.{_⊎_, inl, inr}
 use mathlib.Core.Bool.{Bool, true, false}
-use mathlib.Core.List.{List, [], _∷_, _++_, List·Memᴰ, List·Memᴰ·append-cases, List·Memᴰ·not-nil, List·Memᴰ·eq-of-singleton}
+use mathlib.Core.List.{List, [], _∷_, _++_, List·Memᴰ, List·Memᴰ·append-cases, List·Memᴰ·head, List·Memᴰ·tail, List·Memᴰ·not-nil}
 use Rattle.item.specs.declared.Item.{Item}
 use Rattle.returns.specs.Replace.{replaced}
 
@@ -69,8 +69,9 @@ Each P l = (m : ViewMessage) → List·Memᴰ m l → P m
 pub each-nil : (P : ViewMessage → Type 0) → Each P []
 each-nil P m h = absurd (List·Memᴰ·not-nil h)
 
-pub each-one : (P : ViewMessage → Type 0) (a : ViewMessage) → P a → Each P (a ∷ [])
-each-one P a h m k = subst P (sym (List·Memᴰ·eq-of-singleton k)) h
+pub each-cons : (P : ViewMessage → Type 0) (a : ViewMessage) (l : List ViewMessage) → P a → Each P l → Each P (a ∷ l)
+each-cons P a l h t m (List·Memᴰ·head e) = subst P (sym e) h
+each-cons P a l h t m (List·Memᴰ·tail k) = t m k
 
 pub each-append : (P : ViewMessage → Type 0) (s t : List ViewMessage) → Each P s → Each P t → Each P (s ++ t)
 each-append P s t a b m h = go (List·Memᴰ·append-cases s h)
