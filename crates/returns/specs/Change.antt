@@ -5,7 +5,7 @@
 use Prim.Native.Nat.{ℕ, suc, _≤_, _<_}
 use mathlib.Core.Path.{_≡_, refl, sym, fun-ext, subst}
 use mathlib.Core.Logic.{_≢_}
-use mathlib.Core.Bool.{Bool, true, false}
+use mathlib.Core.Bool.{true, false}
 use mathlib.Core.List.{List, _++_}
 use Rattle.item.specs.declared.Item.{Item}
 use Rattle.item.specs.declared.Tag.{Tag}
@@ -14,7 +14,7 @@ use Rattle.returns.specs.Replace.{replaced, replaced-each}
 use Rattle.returns.specs.Majority.{count, groupSize}
 use Rattle.returns.specs.Rank.{Above, oneAbove}
 use Rattle.returns.specs.History.{Note, quiet, begins, settles, returns}
-use Rattle.returns.specs.View.{ViewPhase, down, fetching, returning, up, ViewStage, idle, storing, confirming, ViewNode, ViewMessage, storeTo, storedBy, confirmTo, confirmedBy, fetchFrom, tableFrom, View, live, put, Sent, Each}
+use Rattle.returns.specs.View.{down, fetching, returning, up, idle, storing, confirming, ViewNode, ViewMessage, storeTo, storedBy, confirmTo, confirmedBy, fetchFrom, tableFrom, View, live, put, Sent, Each}
 use Rattle.returns.specs.Merge.{Merged}
 
 -- w begins to store: nothing is counted yet

@@ -10,7 +10,7 @@ use Rattle.returns.specs.Replace.{replaced, replaced-same, replaced-othe
 use Rattle.returns.specs.Majority.{bit, count, groupSize, count-replaced}
 use Rattle.returns.specs.Rank.{Above, above-refl}
 use Rattle.returns.specs.History.{Note, History, afterNote}
-use Rattle.returns.specs.View.{down, fetching, up, idle, storing, confirming, ViewNode, ViewMessage, confirmedBy, View, live, put, Sent, Each, clash}
+use Rattle.returns.specs.View.{down, up, confirming, ViewNode, ViewMessage, confirmedBy, View, live, put, Sent, Each, clash}
 use Rattle.returns.specs.Change.{CountsStored, CountsConfirmed, SameWrite, MaySend, Change, wrote, retried, crashed, started, tookStore, countedStored, askedConfirm, countedConfirmed, finished, countedTable, rebuilt, wentOn, unchanged}
 use Rattle.returns.specs.Quorum.{Holds, Held, holds-live, holds-down, live-not-fetching}
 use Rattle.returns.specs.Invariant.{Answered, MayConfirm, Asked, Quorum, Invariant}

@@ -1,11 +1,11 @@
 -- The relation has runs, so the theorem is not empty: in a group of three, node 0 writes tag 65 and settles it with node 1,
 -- crashes, starts, counts the tables of nodes 1 and 2, writes back and returns. It is the drill of document 01.
-use Prim.Native.Nat.{ℕ, suc, _≤_, _<_}
+use Prim.Native.Nat.{ℕ}
 use native.Mathlib.Omega.{arith}
 use mathlib.Core.Path.{_≡_, refl}
 use mathlib.Core.Logic.{_≢_}
 use mathlib.Core.Bool.{Bool, true, false}
-use mathlib.Core.List.{List, [], _∷_, List·Memᴰ, List·Memᴰ·head, List·Memᴰ·tail}
+use mathlib.Core.List.{List, [], _∷_, List·Memᴰ·head, List·Memᴰ·tail}
 use lib.Dec.{lit≤, lit<}
 use Rattle.item.specs.declared.Item.{Item}
 use Rattle.item.specs.Counter.{indexBelow}
@@ -15,8 +15,8 @@ use Rattle.returns.specs.Majority.{count}
 use Rattle.returns.specs.Rank.{Above, above-refl, above-ranks}
 use Rattle.returns.specs.History.{Note, quiet, begins, settles, returns, atSetUp, Kept}
 use Rattle.returns.specs.View.{ViewPhase, down, fetching, returning, up, ViewStage, idle, storing, confirming, ViewNode, ViewMessage, storeTo, storedBy, confirmTo, confirmedBy, fetchFrom, tableFrom, View, Sent, Each, each-nil, each-cons, clash}
-use Rattle.returns.specs.Merge.{Merged, merged-first, merged-lower}
-use Rattle.returns.specs.Change.{BeginsStoring, SameWrite, StaysLive, Present, CountsStored, CountsConfirmed, CountsTable, Finishes, wrote, retried, crashed, started, tookStore, countedStored, askedConfirm, countedConfirmed, finished, countedTable, rebuilt, wentOn, unchanged, did}
+use Rattle.returns.specs.Merge.{merged-first, merged-lower}
+use Rattle.returns.specs.Change.{SameWrite, StaysLive, Present, CountsStored, CountsConfirmed, wrote, crashed, started, tookStore, askedConfirm, finished, countedTable, rebuilt, unchanged, did}
 use Rattle.returns.specs.Returns.{SetUp, Run, end, then, returns-kept}
 
 -- index 1, tag 65

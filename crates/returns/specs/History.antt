@@ -1,6 +1,6 @@
 -- "Runs and returns" for one node, as a statement on what the calls of a run tell of it, one note for each call: its last
 -- item, the items it has begun, and what it may return with. No group and no message is named here.
-use Prim.Native.Nat.{ℕ, suc}
+use Prim.Native.Nat.{suc}
 use mathlib.Core.Path.{_≡_}
 use mathlib.Core.Logic.{_⊎_}
 use mathlib.Core.List.{List, [], _∷_, List·Memᴰ}

@@ -1,11 +1,11 @@
 -- The items of x that are about, and what x's answers say: an item that was known stays known, and an item with which x
 -- returns is its last, or was begun next.
-use Prim.Native.Nat.{ℕ, suc, _≤_, _<_}
+use Prim.Native.Nat.{ℕ, _≤_, _<_}
 use native.Mathlib.Omega.{arith}
-use mathlib.Core.Path.{_≡_, refl, sym, ap, _∙_}
+use mathlib.Core.Path.{_≡_, refl, ap, _∙_}
 use mathlib.Core.Logic.{_≢_, _⊎_, inl, inr}
-use mathlib.Core.Bool.{Bool, true, false, false≢true}
-use mathlib.Core.List.{List, _∷_, List·Memᴰ, List·Memᴰ·head, List·Memᴰ·tail}
+use mathlib.Core.Bool.{true, false≢true}
+use mathlib.Core.List.{List·Memᴰ·head, List·Memᴰ·tail}
 use Rattle.item.specs.declared.Item.{Item}
 use Rattle.item.specs.declared.Tag.{Tag}
 use Rattle.item.specs.Item.{zeroItem}
@@ -14,9 +14,8 @@ use Rattle.returns.specs.Majority.{count, groupSize}
 use Rattle.returns.specs.Rank.{Above, above-higher, above-index, above-cases, oneAbove}
 use Rattle.returns.specs.History.{Note, quiet, begins, settles, returns, History, afterNote, May}
 use Rattle.returns.specs.View.{ViewPhase, down, fetching, returning, up, idle, ViewNode, View, live, clash}
-use Rattle.returns.specs.Merge.{Merged}
 use Rattle.returns.specs.Change.{CountsConfirmed, Finishes, Change, wrote, retried, crashed, started, tookStore, countedStored, askedConfirm, countedConfirmed, finished, countedTable, rebuilt, wentOn, unchanged}
-use Rattle.returns.specs.Invariant.{Known, Own, Invariant}
+use Rattle.returns.specs.Invariant.{Known, Invariant}
 use Rattle.returns.specs.Turns.{confirming-live}
 
 -- the three kinds of note, with what is known of the change that tells it

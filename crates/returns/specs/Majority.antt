@@ -1,12 +1,12 @@
 -- Sets of nodes as flags, how many of the first n nodes a set has, and when two sets share a node.
 use Prim.Native.Nat.{ℕ, zero, suc, _+_, _≤_, _<_}
 use native.Mathlib.Omega.{arith}
-use mathlib.Core.Path.{_≡_, refl, sym, ap, _∙_}
+use mathlib.Core.Path.{_≡_, refl, ap}
 use mathlib.Core.Logic.{_≢_}
-use mathlib.Core.Bool.{Bool, true, false, false≢true}
+use mathlib.Core.Bool.{Bool, true, false}
 use lib.Dec.{eqb}
 use borrow.Author.Tests.{eqb-true, eqb-false, ne-eqb}
-use Rattle.returns.specs.Replace.{replaced, replaced-each}
+use Rattle.returns.specs.Replace.{replaced}
 
 -- n = 2f + 1
 abbrev pub groupSize : ℕ → ℕ

@@ -5,7 +5,7 @@ use mathlib.Core.Logic.{_⊎_, inl, inr}
 use mathlib.Core.Bool.{Bool, true, false, false≢true}
 use Rattle.item.specs.declared.Item.{Item}
 use Rattle.item.specs.Item.{ranksBelow}
-use Rattle.returns.specs.Rank.{Above, Covers, level-trans, level-below, covers-above, covers-ranks}
+use Rattle.returns.specs.Rank.{Above, Covers, level-trans, covers-above, covers-ranks}
 use Rattle.returns.specs.View.{ViewNode}
 
 -- v counts a table whose row x is r; its own row x becomes `item`, marked or not

@@ -1,15 +1,14 @@
 -- What a message says stays true, and is true when the message is sent.
 use Prim.Native.Nat.{ℕ, _≤_}
 use native.Mathlib.Omega.{arith}
-use mathlib.Core.Path.{_≡_, refl, sym, ap, _∙_}
-use mathlib.Core.Logic.{_≢_, _⊎_, inl, inr}
-use mathlib.Core.Bool.{Bool, true, false}
+use mathlib.Core.Path.{_≡_, sym}
+use mathlib.Core.Logic.{inr}
 use mathlib.Core.List.{List, _++_}
 use Rattle.item.specs.declared.Item.{Item}
 use Rattle.returns.specs.Replace.{replaced, replaced-same}
 use Rattle.returns.specs.Rank.{above-refl}
 use Rattle.returns.specs.History.{History}
-use Rattle.returns.specs.View.{fetching, up, idle, storing, confirming, ViewNode, ViewMessage, storeTo, storedBy, confirmTo, confirmedBy, fetchFrom, tableFrom, View, live, put, Each, each-append, clash}
+use Rattle.returns.specs.View.{confirming, ViewNode, ViewMessage, storeTo, storedBy, confirmTo, confirmedBy, fetchFrom, tableFrom, View, put, Each, each-append, clash}
 use Rattle.returns.specs.Change.{MaySend}
 use Rattle.returns.specs.Quorum.{live-not-fetching}
 use Rattle.returns.specs.Invariant.{Known, Answered, Past, Own, MessageHolds, Invariant, writing-live}
@@ -32,7 +31,6 @@ module _ (f x : ℕ) (h : History) (g : View) (I : Invariant f x h g) (h′ : Hi
     (known : (i : Item) → Known h i → Known h′ i)
     (forward : (q : ℕ) → Forward (g .node q) (replaced (g .node) p v q))
     (past : (i a : ℕ) → Past i a (g .node x) → Past i a (replaced (g .node) p v x)) where
-
   message-kept : (m : ViewMessage) → MessageHolds x h g m → MessageHolds x h′ (put g p v ms) m
   message-kept (storeTo q i a k) w = known k w
   message-kept (storedBy q i o a k) w = (forward q) .still-answered i k w

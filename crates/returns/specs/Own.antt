@@ -1,14 +1,13 @@
 -- x's own node: its item follows its last one, and each peer that it counts while Storing answered for that item.
-use Prim.Native.Nat.{ℕ, suc, _≤_, _<_}
-use native.Mathlib.Omega.{arith}
+use Prim.Native.Nat.{ℕ}
 use mathlib.Core.Path.{_≡_, refl, sym, ap, _∙_}
-use mathlib.Core.Logic.{_≢_, _⊎_, inl, inr}
-use mathlib.Core.Bool.{Bool, true, false, false≢true}
+use mathlib.Core.Logic.{_≢_}
+use mathlib.Core.Bool.{true, false, false≢true}
 use Rattle.item.specs.declared.Item.{Item}
 use Rattle.returns.specs.Replace.{replaced, replaced-each, replaced-both}
-use Rattle.returns.specs.Rank.{Above, oneAbove}
-use Rattle.returns.specs.History.{Note, quiet, History, afterNote}
-use Rattle.returns.specs.View.{down, fetching, returning, up, idle, storing, confirming, ViewNode, View, live, clash}
+use Rattle.returns.specs.Rank.{oneAbove}
+use Rattle.returns.specs.History.{Note, History, afterNote}
+use Rattle.returns.specs.View.{idle, storing, ViewNode, View, live, clash}
 use Rattle.returns.specs.Change.{CountsStored, BeginsStoring, Change, wrote, retried, crashed, started, tookStore, countedStored, askedConfirm, countedConfirmed, finished, countedTable, rebuilt, wentOn, unchanged}
 use Rattle.returns.specs.Quorum.{rebuilt-above}
 use Rattle.returns.specs.Invariant.{Own, Answered, Polled, Quorum, Invariant}

@@ -2,17 +2,17 @@
 -- A Live node of A has an item above s. A node of A that is Fetching may have lost what it knew, but whatever reaches it from
 -- another node of A under its present incarnation is above s, and what it has counted from such nodes covers s; since f + 1
 -- tables meet A, it is above s again when it is rebuilt.
-use Prim.Native.Nat.{ℕ, suc, _+_, _≤_, _<_}
+use Prim.Native.Nat.{ℕ, suc, _≤_}
 use native.Mathlib.Omega.{arith}
-use mathlib.Core.Path.{_≡_, refl, sym, ap, _∙_}
-use mathlib.Core.Logic.{_≢_, _⊎_, inl, inr}
+use mathlib.Core.Path.{_≡_, sym, _∙_}
+use mathlib.Core.Logic.{_⊎_, inl, inr}
 use mathlib.Core.Bool.{Bool, true, false, false≢true}
-use mathlib.Core.List.{List, [], _∷_, _++_, List·Memᴰ, List·Memᴰ·append-cases}
+use mathlib.Core.List.{List, _++_, List·Memᴰ, List·Memᴰ·append-cases}
 use Rattle.item.specs.declared.Item.{Item}
 use Rattle.returns.specs.Replace.{replaced, replaced-each}
 use Rattle.returns.specs.Majority.{count, groupSize, Both, majorities-meet}
 use Rattle.returns.specs.Rank.{Above, above-trans, Covers, above-covers}
-use Rattle.returns.specs.View.{ViewPhase, down, fetching, returning, up, ViewNode, ViewMessage, tableFrom, View, live, put, Sent, Each, clash}
+use Rattle.returns.specs.View.{down, fetching, returning, ViewNode, ViewMessage, tableFrom, View, live, put, Sent, Each, clash}
 use Rattle.returns.specs.Merge.{Merged}
 use Rattle.returns.specs.Change.{StaysLive, CountsTable, MaySend}
 

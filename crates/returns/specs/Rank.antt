@@ -1,6 +1,6 @@
 -- How items compare: "above" (the same item, or one that ranks higher), and what a row still says of an item when two tags
 -- may have come at its index. This is the only module that opens how items rank; all others use the laws below.
-use Prim.Native.Nat.{ℕ, suc, _≤_, _<_}
+use Prim.Native.Nat.{suc, _≤_, _<_}
 use native.Mathlib.Omega.{arith}
 use mathlib.Core.Path.{_≡_, refl, sym, _∙_}
 use mathlib.Core.Logic.{_⊎_, inl, inr}

@@ -2,8 +2,8 @@
 -- group as set up and is kept by every call, and where it holds the next note is allowed.
 use Prim.Native.Nat.{ℕ, suc, _≤_, _<_}
 use native.Mathlib.Omega.{arith}
-use mathlib.Core.Path.{_≡_, refl, sym, ap, _∙_}
-use mathlib.Core.Bool.{Bool, true, false}
+use mathlib.Core.Path.{_≡_, refl}
+use mathlib.Core.Bool.{Bool, true}
 use mathlib.Core.List.{List, [], _∷_}
 use Rattle.item.specs.declared.Item.{Item}
 use Rattle.item.specs.Item.{zeroItem}
@@ -11,10 +11,10 @@ use Rattle.returns.specs.Replace.{replaced}
 use Rattle.returns.specs.Majority.{count, groupSize, count-all}
 use Rattle.returns.specs.Rank.{above-refl}
 use Rattle.returns.specs.History.{Note, History, atSetUp, afterNote, May, Kept}
-use Rattle.returns.specs.View.{fetching, returning, up, idle, storing, confirming, ViewNode, ViewMessage, View, put, Each, each-nil, clash}
+use Rattle.returns.specs.View.{fetching, idle, ViewNode, ViewMessage, View, put, Each, each-nil, clash}
 use Rattle.returns.specs.Change.{MaySend, Change, Next, same, did}
 use Rattle.returns.specs.Quorum.{Held, held-next, holds-live}
-use Rattle.returns.specs.Invariant.{Known, Own, Quorum, Invariant}
+use Rattle.returns.specs.Invariant.{Quorum, Invariant}
 use Rattle.returns.specs.Turns.{Forward, turn-of, forward-next, past-next}
 use Rattle.returns.specs.Items.{tells, known-zero, known-next, may-tell, item-change, items-next}
 use Rattle.returns.specs.Own.{own-change, own-next, polled-next}

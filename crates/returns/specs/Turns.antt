@@ -1,16 +1,15 @@
 -- Every change is one of the six turns that a quorum sees, and nodes only move forward: what a node has answered stays
 -- answered, and what x has left behind stays behind.
-use Prim.Native.Nat.{ℕ, suc, _≤_, _<_}
+use Prim.Native.Nat.{ℕ, _≤_, _<_}
 use native.Mathlib.Omega.{arith}
-use mathlib.Core.Path.{_≡_, refl, sym, ap, _∙_}
-use mathlib.Core.Logic.{_≢_, _⊎_, inl, inr}
-use mathlib.Core.Bool.{Bool, true, false, false≢true}
-use mathlib.Core.List.{List}
+use mathlib.Core.Path.{_≡_, refl, sym, _∙_}
+use mathlib.Core.Logic.{_⊎_, inl, inr}
+use mathlib.Core.Bool.{true}
 use Rattle.item.specs.declared.Item.{Item}
 use Rattle.returns.specs.Replace.{replaced, replaced-each}
 use Rattle.returns.specs.Rank.{Above, above-refl, above-trans, above-higher, oneAbove}
 use Rattle.returns.specs.History.{History, Note}
-use Rattle.returns.specs.View.{down, fetching, returning, up, idle, storing, confirming, ViewNode, View, live, clash}
+use Rattle.returns.specs.View.{down, fetching, up, idle, storing, confirming, ViewNode, View, live, clash}
 use Rattle.returns.specs.Change.{StaysLive, Change, wrote, retried, crashed, started, tookStore, countedStored, askedConfirm, countedConfirmed, finished, countedTable, rebuilt, wentOn, unchanged}
 use Rattle.returns.specs.Quorum.{Turn, livesOn, goesDown, restarts, countsTable, rebuilds, stays, live-not-fetching}
 use Rattle.returns.specs.Invariant.{Answered, Past, Invariant, writing-live}

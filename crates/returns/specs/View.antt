@@ -2,9 +2,9 @@
 -- what bears on row x, the row that holds x's item; of the messages those that bear on it. Counters are plain numbers. The
 -- view of a real node is a projection of its fields, the same for x and for every other node: attempt, stage, counted and
 -- asked are kept of all nodes, though of a node other than x only `counted`, and only while it is Fetching, is ever used.
-use Prim.Native.Nat.{ℕ, _≤_}
+use Prim.Native.Nat.{ℕ}
 use native.Mathlib.Omega.{arith}
-use mathlib.Core.Path.{_≡_, refl, sym, subst}
+use mathlib.Core.Path.{_≡_, sym, subst}
 use mathlib.Core.Logic.{_⊎_, inl, inr}
 use mathlib.Core.Bool.{Bool, true, false}
 use mathlib.Core.List.{List, [], _∷_, _++_, List·Memᴰ, List·Memᴰ·append-cases, List·Memᴰ·head, List·Memᴰ·tail, List·Memᴰ·not-nil}
