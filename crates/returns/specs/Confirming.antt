@@ -11,15 +11,16 @@ use Rattle.returns.specs.Majority.{bit, count, groupSize, count-replaced
 use Rattle.returns.specs.Rank.{Above, above-refl}
 use Rattle.returns.specs.History.{Note, History, afterNote}
 use Rattle.returns.specs.View.{down, up, confirming, ViewNode, ViewMessage, confirmedBy, View, live, put, Sent, Each, clash}
-use Rattle.returns.specs.Change.{CountsStored, CountsConfirmed, SameWrite, MaySend, Change, wrote, retried, crashed, started, tookStore, countedStored, askedConfirm, countedConfirmed, finished, countedTable, rebuilt, wentOn, unchanged}
-use Rattle.returns.specs.Quorum.{Holds, Held, holds-live, holds-down, live-not-fetching}
-use Rattle.returns.specs.Invariant.{Answered, MayConfirm, Asked, Quorum, Invariant}
+use Rattle.returns.specs.Change.{Present, CountsStored, CountsConfirmed, SameWrite, MaySend, Change, wrote, retried, crashed, started, tookStore, countedStored, askedConfirm, countedConfirmed, finished, countedTable, rebuilt, wentOn, unchanged}
+use Rattle.returns.specs.Quorum.{Holds, KeepsHeld, holds-live, holds-down, live-not-fetching}
+use Rattle.returns.specs.Invariant.{Answered, HasConfirmed, MayConfirm, Asked, Quorum, Invariant}
 use Rattle.returns.specs.Turns.{Forward, storing-live}
 use Rattle.returns.specs.Items.{Tells, tellsNothing, tellsBegun, tellsFinished, finished-is}
 use Rattle.returns.specs.Own.{of-x, polled-more}
 
 -- a node that answered, and has not restarted since, holds the item
-answered-holds : (A : ℕ → Bool) (s : Item) (ms : List ViewMessage) (p : ℕ) (v : ViewNode) → (v .phase ≡ down) ⊎ ((v .phase ≡ up) × Above s (v .item)) → Holds A s ms p v
+answered-holds : (A : ℕ → Bool) (s : Item) (ms : List ViewMessage) (p : ℕ) (v : ViewNode)
+    → (v .phase ≡ down) ⊎ ((v .phase ≡ up) × Above s (v .item)) → Holds A s ms p v
 answered-holds A s ms p v (inl d) = holds-down A s ms p v d
 answered-holds A s ms p v (inr u) = let e : v .phase ≡ up = u .0 in holds-live A s ms p v (λ z. clash (cc)) (u .1)
 
@@ -34,8 +35,8 @@ module _ (f x : ℕ) (h : History) (g : View) (I : Invariant f x h g) where
       go (inr z) = inr z
 
   -- nothing that happens elsewhere undoes it
-  asked-kept : (p : ℕ) (v : ViewNode) (ms : List ViewMessage) → Each (MaySend x g p v) ms → ((q : ℕ) → Forward (g .node q) (replaced (g .node) p v q))
-      → ((A : ℕ → Bool) (s : Item) → suc f ≤ count A (groupSize f) → Held A s g → Held A s (put g p v ms)) → (w : ViewNode) → Asked f x g w → Asked f x (put g p v ms) w
+  asked-kept : (p : ℕ) (v : ViewNode) (ms : List ViewMessage) → Each (MaySend x g p v) ms
+      → ((q : ℕ) → Forward (g .node q) (replaced (g .node) p v q)) → KeepsHeld f g (put g p v ms) → (w : ViewNode) → Asked f x g w → Asked f x (put g p v ms) w
   asked-kept p v ms send fw keep w A = record {
     others = λ q e. ((A .others q e) .0, omega (arith, (A .others q e) .1, (fw q) .no-earlier));
     have-confirmed = λ q e. ((A .have-confirmed q e) .0, Memᴰ·append-right ms ((A .have-confirmed q e) .1));
@@ -49,12 +50,13 @@ module _ (f x : ℕ) (h : History) (g : View) (I : Invariant f x h g) where
   -- The f-th Stored: no Confirmed of this attempt has been sent, so whoever may confirm is still under the incarnation in
   -- which it stored.
   asked-new : (q i : ℕ) (v : ViewNode) (ms : List ViewMessage) → CountsStored x g q i → SameWrite (g .node x) v → v .phase ≡ (g .node x) .phase
-      → v .asked ≡ replaced ((g .node x) .counted) q true → v .askedUnder ≡ replaced ((g .node x) .countedUnder) q i → ((k : ℕ) → v .counted k ≡ false)
-      → Each (MaySend x g x v) ms → Asked f x (put g x v ms) v
+      → v .asked ≡ replaced ((g .node x) .counted) q true → v .askedUnder ≡ replaced ((g .node x) .countedUnder) q i
+      → ((k : ℕ) → v .counted k ≡ false) → Each (MaySend x g x v) ms → Asked f x (put g x v ms) v
   asked-new q i v ms c w u ea eu none send = record {
     others = λ k e. ((answered k e) .0, rw (replaced-other (g .node) x v k ((answered k e) .0)) (((answered k e) .1) .not-later));
     have-confirmed = λ k e. absurd (false≢true (sym (none k) ∙ e));
-    would-hold = λ B sub m can. replaced-each (λ k z. replaced B x true k ≡ true → Holds (replaced B x true) (v .item) (ms ++ g .sent) k z) (g .node) x v
+    would-hold = λ B sub m can. replaced-each
+        (λ k z. replaced B x true k ≡ true → Holds (replaced B x true) (v .item) (ms ++ g .sent) k z) (g .node) x v
         (λ a. holds-live (replaced B x true) (v .item) (ms ++ g .sent) x v (live-not-fetching v live-after) (above-refl (v .item)))
         (λ k d a. holds B sub can k d (rw (replaced-other B x true k d) at a));
   }
@@ -69,8 +71,7 @@ module _ (f x : ℕ) (h : History) (g : View) (I : Invariant f x h g) where
       present k d (inl e) = rw (replaced-other (g .node) x v k d) at e
       present k d (inr m) = late (confirm-before x v ms send k (v .askedUnder k) (v .incarnation) (v .attempt) (v .item) m)
         where
-          late : ((g .node k) .incarnation ≡ v .askedUnder k) ⊎ Sent (confirmedBy k (v .askedUnder k) (v .incarnation) (v .attempt) (v .item)) g
-              → (g .node k) .incarnation ≡ v .askedUnder k
+          late : MayConfirm g v k → (g .node k) .incarnation ≡ v .askedUnder k
           late (inl e) = e
           late (inr z) = absurd (omega (arith, (I .messages _ z) .before-storing (c .in-storing) (w .same-incarnation), w .same-attempt))
 
@@ -81,10 +82,11 @@ module _ (f x : ℕ) (h : History) (g : View) (I : Invariant f x h g) where
 
   -- one more Confirmed is counted, whether it is the f-th or not
   confirmed-more : (q : ℕ) → CountsConfirmed x g q → (k : ℕ) → replaced ((g .node x) .counted) q true k ≡ true
-      → ((g .node x) .asked k ≡ true) × Sent (confirmedBy k ((g .node x) .askedUnder k) ((g .node x) .incarnation) ((g .node x) .attempt) ((g .node x) .item)) g
-  confirmed-more q c = replaced-each (λ k b. b ≡ true → ((g .node x) .asked k ≡ true)
-      × Sent (confirmedBy k ((g .node x) .askedUnder k) ((g .node x) .incarnation) ((g .node x) .attempt) ((g .node x) .item)) g) ((g .node x) .counted) q true
-      (λ e. (c .was-asked, (rw (c .asked-under, (c .present) .present-incarnation, (c .present) .present-attempt, (c .present) .present-item) at (c .was-sent))))
+      → ((g .node x) .asked k ≡ true) × HasConfirmed g (g .node x) k
+  confirmed-more q c =
+      let P : Present (g .node x) (c .other) (c .attempt) (c .item) = c .present in
+      replaced-each (λ k b. b ≡ true → ((g .node x) .asked k ≡ true) × HasConfirmed g (g .node x) k) ((g .node x) .counted) q true
+      (λ e. (c .was-asked, (rw (c .asked-under, P .present-incarnation, P .present-attempt, P .present-item) at (c .was-sent))))
       (λ k d. (I .asked (c .in-confirming)) .have-confirmed k)
 
   asked-more : (q : ℕ) (v : ViewNode) → CountsConfirmed x g q → SameWrite (g .node x) v → v .counted ≡ replaced ((g .node x) .counted) q true
@@ -119,12 +121,12 @@ module _ (f x : ℕ) (h : History) (g : View) (I : Invariant f x h g) where
       keep v (rw e (of-x x g (λ w. w .stage ≡ confirming → Asked f x g w) p z (I .asked) (rw e at st)))
 
   pub asked-next : (n : Note) (p : ℕ) (v : ViewNode) (ms : List ViewMessage) → Change f x g n p v → Each (MaySend x g p v) ms
-      → ((q : ℕ) → Forward (g .node q) (replaced (g .node) p v q))
-      → ((A : ℕ → Bool) (s : Item) → suc f ≤ count A (groupSize f) → Held A s g → Held A s (put g p v ms))
+      → ((q : ℕ) → Forward (g .node q) (replaced (g .node) p v q)) → KeepsHeld f g (put g p v ms)
       → (replaced (g .node) p v x) .stage ≡ confirming → Asked f x (put g p v ms) (replaced (g .node) p v x)
   asked-next n p v ms c send fw keep = replaced-each (λ q w. q ≡ x → w .stage ≡ confirming → Asked f x (put g p v ms) w) (g .node) p v
       (asked-change n p v ms c send (asked-kept p v ms send fw keep))
-      (λ q d z. of-x x g (λ w. w .stage ≡ confirming → Asked f x (put g p v ms) w) q z (λ st. asked-kept p v ms send fw keep (g .node x) (I .asked st))) x refl
+      (λ q d z. of-x x g (λ w. w .stage ≡ confirming → Asked f x (put g p v ms) w) q z
+      (λ st. asked-kept p v ms send fw keep (g .node x) (I .asked st))) x refl
 
   -- the f who have confirmed, with x
   quorum-new : x < groupSize f → (q : ℕ) → CountsConfirmed x g q → f ≤ count (replaced ((g .node x) .counted) q true) (groupSize f)

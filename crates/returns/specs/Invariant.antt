@@ -51,16 +51,19 @@ MessageHolds x h g (tableFrom q to o r) = (o ≤ (g .node to) .incarnation) × K
 abbrev pub Polled : ℕ → View → ViewNode → Type 0
 Polled x g v = (q : ℕ) → v .counted q ≡ true → (q ≢ x) × Answered (v .countedUnder q) (v .item) (g .node q)
 
+-- q has confirmed the present attempt of v, under the incarnation in which it stored
+abbrev pub HasConfirmed : View → ViewNode → ℕ → Type 0
+HasConfirmed g v q = Sent (confirmedBy q (v .askedUnder q) (v .incarnation) (v .attempt) (v .item)) g
+
 -- q has confirmed, or is still under the incarnation in which it stored and so may yet confirm
 abbrev pub MayConfirm : View → ViewNode → ℕ → Type 0
-MayConfirm g v q = ((g .node q) .incarnation ≡ v .askedUnder q) ⊎ Sent (confirmedBy q (v .askedUnder q) (v .incarnation) (v .attempt) (v .item)) g
+MayConfirm g v q = ((g .node q) .incarnation ≡ v .askedUnder q) ⊎ HasConfirmed g v q
 
 -- While x is Confirming: any of those asked who may all confirm hold x's item, together with x, if they are f + 1. Fewer and
 -- fewer may confirm as nodes restart, so this stays true; and those who have confirmed are such a set.
 pub record Asked (f x : ℕ) (g : View) (v : ViewNode) : Type 0 where
   pub others : (q : ℕ) → v .asked q ≡ true → (q ≢ x) × (v .askedUnder q ≤ (g .node q) .incarnation)
-  pub have-confirmed : (q : ℕ) → v .counted q ≡ true
-      → (v .asked q ≡ true) × Sent (confirmedBy q (v .askedUnder q) (v .incarnation) (v .attempt) (v .item)) g
+  pub have-confirmed : (q : ℕ) → v .counted q ≡ true → (v .asked q ≡ true) × HasConfirmed g v q
   pub would-hold : (B : ℕ → Bool) → ((q : ℕ) → B q ≡ true → v .asked q ≡ true) → suc f ≤ count (replaced B x true) (groupSize f)
       → ((q : ℕ) → B q ≡ true → MayConfirm g v q) → Held (replaced B x true) (v .item) g
 

@@ -103,7 +103,8 @@ module _ (f x : ℕ) (h : History) (g : View) (I : Invariant f x h g) where
   may-tell n p (tellsNothing _) = tt
   may-tell n p (tellsBegun t) = tt
   may-tell n p (tellsFinished q _ c m r) =
-      by-phase (May h) (g .node x) n (confirming-live f x h g I (c .in-confirming)) r tt (go (above-cases (h .last) ((g .node x) .item) (confirming-above q c)))
+      by-phase (May h) (g .node x) n (confirming-live f x h g I (c .in-confirming)) r tt
+      (go (above-cases (h .last) ((g .node x) .item) (confirming-above q c)))
     where
       k : Known h ((g .node x) .item)
       k = I .items x
@@ -124,8 +125,10 @@ module _ (f x : ℕ) (h : History) (g : View) (I : Invariant f x h g) where
   item-change n p v (askedConfirm q i _ c w u s e e′ y) = rw (w .same-item) (I .items x)
   item-change n p v (countedConfirmed q _ c w u s e e′ y) = rw (w .same-item) (I .items x)
   item-change n p v (finished q _ _ c m w u s r) = rw (w .same-item) (known-next n x (tellsFinished q n c m r) ((g .node x) .item) (I .items x))
-  item-change n p v (countedTable _ q r _ t u s c m) = known-merged h (g .node p) r (v .item) (m .from) (I .items p) ((I .messages _ (t .was-sent)) .1)
-  item-change n p v (rebuilt _ q r _ t c u m b) = known-merged h (g .node p) r (v .item) (m .from) (I .items p) ((I .messages _ (t .was-sent)) .1)
+  item-change n p v (countedTable _ q r _ t u s c m) =
+      known-merged h (g .node p) r (v .item) (m .from) (I .items p) ((I .messages _ (t .was-sent)) .1)
+  item-change n p v (rebuilt _ q r _ t c u m b) =
+      known-merged h (g .node p) r (v .item) (m .from) (I .items p) ((I .messages _ (t .was-sent)) .1)
   item-change n p v (wentOn _ _ d l k) = rw k (I .items p)
   item-change n p v (unchanged _ _ e) = rw e (I .items p)
 

@@ -43,10 +43,12 @@ module _ (f x : ℕ) (h : History) (g : View) (I : Invariant f x h g) (h′ : Hi
   message-new item own (storeTo q i a k) s = rw s item
   message-new item own (storedBy q i o a k) s = at-changed (Answered i k) (g .node) p v q (s .0) (rw (s .2, s .3)
       (record { not-later = omega arith; solid = λ e. inr (s .1, above-refl (v .item)) }))
-  message-new item own (confirmTo q i o a k) s = at-changed (Past i a) (g .node) p v x (sym (s .0)) (rw (s .2, s .3) (past-confirming h′ v (own (s .0)) (s .1)))
+  message-new item own (confirmTo q i o a k) s =
+      at-changed (Past i a) (g .node) p v x (sym (s .0)) (rw (s .2, s .3) (past-confirming h′ v (own (s .0)) (s .1)))
   message-new item own (confirmedBy q i o a k) s = past o a (I .messages _ (s .3))
   message-new item own (fetchFrom q to i) s = at-changed (λ w. i ≤ w .incarnation) (g .node) p v q (s .0) (omega (arith, s .1))
-  message-new item own (tableFrom q to o r) s = (omega (arith, I .messages _ (s .3), (forward to) .no-earlier), rw (s .2) (known ((g .node p) .item) (I .items p)))
+  message-new item own (tableFrom q to o r) s =
+      (omega (arith, I .messages _ (s .3), (forward to) .no-earlier), rw (s .2) (known ((g .node p) .item) (I .items p)))
 
   pub messages-next : Known h′ (v .item) → (p ≡ x → Own h′ v) → Each (MaySend x g p v) ms → Each (MessageHolds x h′ (put g p v ms)) (ms ++ g .sent)
   messages-next item own send = each-append (MessageHolds x h′ (put g p v ms)) ms (g .sent)

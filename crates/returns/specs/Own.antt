@@ -21,7 +21,8 @@ of-x x g P p e h = rw e h
 own-off : (h : History) (v : ViewNode) → live (v .phase) ≡ false → v .stage ≡ idle → Own h v
 own-off h v e s = record { when-idle = λ u. clash (cc); when-writing = λ u. clash (cc); when-returning = λ u. clash (cc); when-off = λ u. s }
 
-own-writes : (h : History) (v w : ViewNode) → Own h v → w .phase ≡ v .phase → w .item ≡ v .item → (v .stage ≡ idle → ⊥) → (w .stage ≡ idle → ⊥) → Own h w
+own-writes : (h : History) (v w : ViewNode) → Own h v → w .phase ≡ v .phase → w .item ≡ v .item → (v .stage ≡ idle → ⊥)
+    → (w .stage ≡ idle → ⊥) → Own h w
 own-writes h v w o e i dv dw = record {
   when-idle = λ u s. absurd (dw s);
   when-writing = λ u s. ap (λ (j : Item). j .index .0) i ∙ o .when-writing (sym e ∙ u) dv;

@@ -1,5 +1,5 @@
 -- A set A of nodes that holds an item s, in the sense that no later call can undo (`held-next`) as long as A has f + 1 nodes.
--- A Live node of A has an item above s. A node of A that is Fetching may have lost what it knew, but whatever reaches it from
+-- A live node of A has an item above s. A node of A that is Fetching may have lost what it knew, but whatever reaches it from
 -- another node of A under its present incarnation is above s, and what it has counted from such nodes covers s; since f + 1
 -- tables meet A, it is above s again when it is rebuilt.
 use Prim.Native.Nat.{ℕ, suc, _≤_}
@@ -25,11 +25,16 @@ pub record Holds (A : ℕ → Bool) (s : Item) (ms : List ViewMessage) (p : ℕ)
 abbrev pub Held : (ℕ → Bool) → Item → View → Type 0
 Held A s g = (p : ℕ) → A p ≡ true → Holds A s (g .sent) p (g .node p)
 
+-- whatever f + 1 nodes hold in g, they hold in g′
+abbrev pub KeepsHeld : ℕ → View → View → Type 0
+KeepsHeld f g g′ = (A : ℕ → Bool) (s : Item) → suc f ≤ count A (groupSize f) → Held A s g → Held A s g′
+
 pub live-not-fetching : (v : ViewNode) → live (v .phase) ≡ true → v .phase ≡ fetching → ⊥
 live-not-fetching v l e = clash (cc)
 
 -- a node that is not Fetching: nothing is asked of a Down one
-pub holds-live : (A : ℕ → Bool) (s : Item) (ms : List ViewMessage) (p : ℕ) (v : ViewNode) → (v .phase ≡ fetching → ⊥) → Above s (v .item) → Holds A s ms p v
+pub holds-live : (A : ℕ → Bool) (s : Item) (ms : List ViewMessage) (p : ℕ) (v : ViewNode) → (v .phase ≡ fetching → ⊥)
+    → Above s (v .item) → Holds A s ms p v
 holds-live A s ms p v d h = record { when-live = λ e. h; when-counted = λ e. absurd (d e); when-coming = λ e. absurd (d e) }
 
 pub holds-down : (A : ℕ → Bool) (s : Item) (ms : List ViewMessage) (p : ℕ) (v : ViewNode) → v .phase ≡ down → Holds A s ms p v
@@ -62,7 +67,8 @@ module _ (A : ℕ → Bool) (s : Item) (g : View) (p : ℕ) where
 
   module _ (f : ℕ) (many : suc f ≤ count A (groupSize f)) where
     -- a node of A that has counted f + 1 tables, in an unmarked row, is above s again
-    pub rebuilt-above : (q : ℕ) (r : Item) (w : ViewNode) → CountsTable g p q r w → suc f ≤ count (replaced ((g .node p) .counted) q true) (groupSize f)
+    pub rebuilt-above : (q : ℕ) (r : Item) (w : ViewNode) → CountsTable g p q r w
+        → suc f ≤ count (replaced ((g .node p) .counted) q true) (groupSize f)
         → Merged (g .node p) r (w .item) false → Holds A s (g .sent) p (g .node p) → Above s (w .item)
     rebuilt-above q r w T c M h = go (majorities-meet (replaced ((g .node p) .counted) q true) A f c many)
       where
@@ -85,7 +91,8 @@ module _ (A : ℕ → Bool) (s : Item) (g : View) (p : ℕ) where
     holds-turn past w (stays e) h = rw e h
 
     -- A Table that is sent is that of a live node, so if that node is in A, it is above s.
-    pub held-next : (x : ℕ) (v : ViewNode) (ms : List ViewMessage) → ((q o : ℕ) (r : Item) → Sent (tableFrom q p o r) g → o ≤ (g .node p) .incarnation)
+    pub held-next : (x : ℕ) (v : ViewNode) (ms : List ViewMessage)
+        → ((q o : ℕ) (r : Item) → Sent (tableFrom q p o r) g → o ≤ (g .node p) .incarnation)
         → Turn f g p v → Each (MaySend x g p v) ms → Held A s g → Held A s (put g p v ms)
     held-next x v ms past T send h q a = more (replaced (g .node) p v q)
         (replaced-each (λ k w. A k ≡ true → Holds A s (g .sent) k w) (g .node) p v (λ b. holds-turn past v T (h p b)) (λ k d. h k) q a)

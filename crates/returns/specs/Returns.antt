@@ -13,7 +13,7 @@ use Rattle.returns.specs.Rank.{above-refl}
 use Rattle.returns.specs.History.{Note, History, atSetUp, afterNote, May, Kept}
 use Rattle.returns.specs.View.{fetching, idle, ViewNode, ViewMessage, View, put, Each, each-nil, clash}
 use Rattle.returns.specs.Change.{MaySend, Change, Next, same, did}
-use Rattle.returns.specs.Quorum.{Held, held-next, holds-live}
+use Rattle.returns.specs.Quorum.{KeepsHeld, held-next, holds-live}
 use Rattle.returns.specs.Invariant.{Quorum, Invariant}
 use Rattle.returns.specs.Turns.{Forward, turn-of, forward-next, past-next}
 use Rattle.returns.specs.Items.{tells, known-zero, known-next, may-tell, item-change, items-next}
@@ -34,30 +34,30 @@ module _ (f x : ℕ) where
     then : {g g′ : View} {n : Note} {l : List Note} → Next f x g n g′ → Run g′ l → Run g (n ∷ l)
 
 module _ (f x : ℕ) (below : x < groupSize f) where
-  -- no call undoes a quorum
-  held-change : (h : History) (g : View) → Invariant f x h g → (n : Note) (p : ℕ) (v : ViewNode) (ms : List ViewMessage) → Change f x g n p v → Each (MaySend x g p v) ms
-      → (A : ℕ → Bool) (s : Item) → suc f ≤ count A (groupSize f) → Held A s g → Held A s (put g p v ms)
-  held-change h g I n p v ms c send A s many = held-next A s g p f many x v ms (λ q o r m. (I .messages _ m) .0) (turn-of f x h g I n p v c) send
+  module _ (h : History) (g : View) (I : Invariant f x h g) (n : Note) (p : ℕ) (v : ViewNode) (ms : List ViewMessage)
+      (c : Change f x g n p v) (send : Each (MaySend x g p v) ms) where
 
-  quorum-kept : (h : History) (g : View) → Invariant f x h g → (n : Note) (p : ℕ) (v : ViewNode) (ms : List ViewMessage) → Change f x g n p v → Each (MaySend x g p v) ms
-      → (s : Item) → Quorum f x s g → Quorum f x s (put g p v ms)
-  quorum-kept h g I n p v ms c send s Q =
-      record { members = Q .members; with-x = Q .with-x; many = Q .many; held = held-change h g I n p v ms c send (Q .members) s (Q .many) (Q .held) }
+    -- no change undoes what f + 1 nodes hold
+    held-change : KeepsHeld f g (put g p v ms)
+    held-change A s many = held-next A s g p f many x v ms (λ q o r m. (I .messages _ m) .0) (turn-of f x h g I n p v c) send
 
-  pub invariant-change : (h : History) (g : View) → Invariant f x h g → (n : Note) (p : ℕ) (v : ViewNode) (ms : List ViewMessage) → Change f x g n p v → Each (MaySend x g p v) ms
-      → Invariant f x (afterNote h n) (put g p v ms)
-  invariant-change h g I n p v ms c send = record {
-    items = items-next f x h g I n p v c;
-    messages = messages-next f x h g I (afterNote h n) p v ms (known-next f x h g I n p (tells f x g n p v c)) forward (past-next f x h g I n p v c)
-        (item-change f x h g I n p v c) (own-change f x h g I n p v c) send;
-    own = own-next f x h g I n p v c;
-    polled = polled-next f x h g I (put g p v ms) n p v c forward;
-    asked = asked-next f x h g I n p v ms c send forward (held-change h g I n p v ms c send);
-    quorum = quorum-kept h g I n p v ms c send ((afterNote h n) .last) (quorum-next f x h g I below n p (tells f x g n p v c));
-  }
-    where
-      forward : (q : ℕ) → Forward (g .node q) (replaced (g .node) p v q)
-      forward = forward-next f g p v (turn-of f x h g I n p v c)
+    quorum-kept : (s : Item) → Quorum f x s g → Quorum f x s (put g p v ms)
+    quorum-kept s Q = record { members = Q .members; with-x = Q .with-x; many = Q .many; held = held-change (Q .members) s (Q .many) (Q .held) }
+
+    forward : (q : ℕ) → Forward (g .node q) (replaced (g .node) p v q)
+    forward = forward-next f g p v (turn-of f x h g I n p v c)
+
+    pub invariant-change : Invariant f x (afterNote h n) (put g p v ms)
+    invariant-change = record {
+      items = items-next f x h g I n p v c;
+      messages = messages-next f x h g I (afterNote h n) p v ms
+          (known-next f x h g I n p (tells f x g n p v c)) forward (past-next f x h g I n p v c)
+          (item-change f x h g I n p v c) (own-change f x h g I n p v c) send;
+      own = own-next f x h g I n p v c;
+      polled = polled-next f x h g I (put g p v ms) n p v c forward;
+      asked = asked-next f x h g I n p v ms c send forward held-change;
+      quorum = quorum-kept ((afterNote h n) .last) (quorum-next f x h g I below n p (tells f x g n p v c));
+    }
 
   -- one call: its note is allowed, and the invariant holds again
   pub call-kept : (h : History) (g g′ : View) (n : Note) → Invariant f x h g → Next f x g n g′ → May h n × Invariant f x (afterNote h n) g′
@@ -66,7 +66,8 @@ module _ (f x : ℕ) (below : x < groupSize f) where
 
   pub run-kept : (h : History) (g : View) (l : List Note) → Invariant f x h g → Run f x g l → Kept h l
   run-kept h g l I end = tt
-  run-kept h g l I (then {g′ = g′} {n = n} {l = l′} c r) = ((call-kept h g g′ n I c) .0, run-kept (afterNote h n) g′ l′ ((call-kept h g g′ n I c) .1) r)
+  run-kept h g l I (then {g′ = g′} {n = n} {l = l′} c r) =
+      ((call-kept h g g′ n I c) .0, run-kept (afterNote h n) g′ l′ ((call-kept h g g′ n I c) .1) r)
 
   -- the group as set up
   pub invariant-set-up : (node : ℕ → ViewNode) → ((p : ℕ) → SetUp (node p)) → Invariant f x atSetUp (record { node = node; sent = [] })
@@ -90,5 +91,6 @@ module _ (f x : ℕ) (below : x < groupSize f) where
   }
 
   -- "Runs and returns", in x's view: for every run from set-up
-  pub returns-kept : (node : ℕ → ViewNode) → ((p : ℕ) → SetUp (node p)) → (l : List Note) → Run f x (record { node = node; sent = [] }) l → Kept atSetUp l
+  pub returns-kept : (node : ℕ → ViewNode) → ((p : ℕ) → SetUp (node p)) → (l : List Note)
+      → Run f x (record { node = node; sent = [] }) l → Kept atSetUp l
   returns-kept node s l r = run-kept atSetUp (record { node = node; sent = [] }) l (invariant-set-up node s) r

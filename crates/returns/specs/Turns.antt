@@ -10,14 +10,15 @@ use Rattle.returns.specs.Replace.{replaced, replaced-each}
 use Rattle.returns.specs.Rank.{Above, above-refl, above-trans, above-higher, oneAbove}
 use Rattle.returns.specs.History.{History, Note}
 use Rattle.returns.specs.View.{down, fetching, up, idle, storing, confirming, ViewNode, View, live, clash}
-use Rattle.returns.specs.Change.{StaysLive, Change, wrote, retried, crashed, started, tookStore, countedStored, askedConfirm, countedConfirmed, finished, countedTable, rebuilt, wentOn, unchanged}
+use Rattle.returns.specs.Change.{SameWrite, StaysLive, Change, wrote, retried, crashed, started, tookStore, countedStored, askedConfirm, countedConfirmed, finished, countedTable, rebuilt, wentOn, unchanged}
 use Rattle.returns.specs.Quorum.{Turn, livesOn, goesDown, restarts, countsTable, rebuilds, stays, live-not-fetching}
 use Rattle.returns.specs.Invariant.{Answered, Past, Invariant, writing-live}
 
 -- a live node whose phase and item stay
 goes-on : (f : ℕ) (g : View) (p : ℕ) (w : ViewNode) → live ((g .node p) .phase) ≡ true → w .incarnation ≡ (g .node p) .incarnation
     → w .phase ≡ (g .node p) .phase → w .item ≡ (g .node p) .item → Turn f g p w
-goes-on f g p w l i e k = livesOn (record { same-incarnation = i; was-live = l; is-live = rw e l; stays-up = λ u. e ∙ u }) (rw k (above-refl ((g .node p) .item)))
+goes-on f g p w l i e k =
+    livesOn (record { same-incarnation = i; was-live = l; is-live = rw e l; stays-up = λ u. e ∙ u }) (rw k (above-refl ((g .node p) .item)))
 
 module _ (f x : ℕ) (h : History) (g : View) (I : Invariant f x h g) where
   pub storing-live : (g .node x) .stage ≡ storing → live ((g .node x) .phase) ≡ true
@@ -56,7 +57,10 @@ forward-refl v = record { no-earlier = omega arith; still-answered = λ i k a. a
 forward-live : (v w : ViewNode) → StaysLive v w → Above (v .item) (w .item) → Forward v w
 forward-live v w l r = record {
   no-earlier = omega (arith, l .same-incarnation);
-  still-answered = λ i k a. record { not-later = omega (arith, a .not-later, l .same-incarnation); solid = λ e. go k (a .solid (e ∙ l .same-incarnation)) };
+  still-answered = λ i k a. record {
+    not-later = omega (arith, a .not-later, l .same-incarnation);
+    solid = λ e. go k (a .solid (e ∙ l .same-incarnation));
+  };
 }
   where
     go : (k : Item) → (v .phase ≡ down) ⊎ ((v .phase ≡ up) × Above k (v .item)) → (w .phase ≡ down) ⊎ ((w .phase ≡ up) × Above k (w .item))
@@ -104,7 +108,13 @@ past-live v w e l d m late i a b = record {
     go z (inl s) = omega (arith, b .before-storing s z)
     go z (inr s) = omega (arith, b .not-later-attempt l z)
 
--- .. or it was Down or Fetching, or is now, and the attempts of earlier incarnations do not matter
+-- x's write goes on in its stage or the next, or is finished
+past-writes : (v w : ViewNode) → SameWrite v w → live (v .phase) ≡ true → live (w .phase) ≡ true → (w .stage ≡ storing → v .stage ≡ storing)
+    → (i a : ℕ) → Past i a v → Past i a w
+past-writes v w s l l′ st =
+    past-live v w (s .same-incarnation) l (live-not-fetching w l′) (omega (arith, s .same-attempt)) (λ z. inl (st z))
+
+-- an earlier incarnation is past, whatever its attempts
 past-earlier : (w : ViewNode) (i a : ℕ) → i < w .incarnation → Past i a w
 past-earlier w i a l = record {
   not-later = omega arith;
@@ -112,6 +122,9 @@ past-earlier w i a l = record {
   not-later-attempt = λ z z′. absurd (omega arith);
   before-storing = λ z z′. absurd (omega arith);
 }
+
+past-fetching : (v w : ViewNode) → v .phase ≡ fetching → w .incarnation ≡ v .incarnation → (i a : ℕ) → Past i a v → Past i a w
+past-fetching v w d e i a b = past-earlier w i a (omega (arith, b .before-fetching d))
 
 past-down : (v w : ViewNode) → w .incarnation ≡ v .incarnation → w .phase ≡ down → w .stage ≡ idle → (i a : ℕ) → Past i a v → Past i a w
 past-down v w e d s i a b = record {
@@ -124,28 +137,26 @@ past-down v w e d s i a b = record {
 module _ (f x : ℕ) (h : History) (g : View) (I : Invariant f x h g) where
   past-change : (n : Note) (p : ℕ) (v : ViewNode) → Change f x g n p v → p ≡ x → (i a : ℕ) → Past i a (g .node p) → Past i a v
   past-change n p v (wrote t _ e s b u a k) z =
-      past-live (g .node x) v (b .same-incarnation) (rw e) (λ z. clash (cc)) (omega arith) (λ z. inr a)
+      past-live (g .node x) v (b .same-incarnation) (rw e) (λ y. clash (cc)) (omega arith) (λ y. inr a)
   past-change n p v (retried _ d b u a k) z =
       let l : live ((g .node x) .phase) ≡ true = writing-live h (g .node x) (I .own) d in
-      past-live (g .node x) v (b .same-incarnation) l (λ z. live-not-fetching (g .node x) l (sym u ∙ z)) (omega arith) (λ z. inr a)
+      past-live (g .node x) v (b .same-incarnation) l (live-not-fetching v (rw u l)) (omega arith) (λ y. inr a)
   past-change n p v (crashed _ _ i u s k) z = past-down (g .node p) v i u s
   past-change n p v (started _ _ i u s k c) z = λ j a b. past-earlier v j a (omega (arith, b .not-later))
   past-change n p v (tookStore _ i a k _ d m r l e) z = absurd (d z)
   past-change n p v (countedStored q i _ c w u s e e′) z =
-      let l : live ((g .node x) .phase) ≡ true = storing-live f x h g I (c .in-storing) in
-      past-live (g .node x) v (w .same-incarnation) l (λ z. live-not-fetching (g .node x) l (sym u ∙ z)) (omega (arith, w .same-attempt)) (λ z. inl (c .in-storing))
+      let l : live ((g .node x) .phase) ≡ true = storing-live f x h g I (c .in-storing) in past-writes (g .node x) v w l (rw u l) (λ y. c .in-storing)
   past-change n p v (askedConfirm q i _ c w u s e e′ y) z =
-      let l : live ((g .node x) .phase) ≡ true = storing-live f x h g I (c .in-storing) in
-      past-live (g .node x) v (w .same-incarnation) l (λ z. live-not-fetching (g .node x) l (sym u ∙ z)) (omega (arith, w .same-attempt)) (λ z. inl (c .in-storing))
+      let l : live ((g .node x) .phase) ≡ true = storing-live f x h g I (c .in-storing) in past-writes (g .node x) v w l (rw u l) (λ y. c .in-storing)
   past-change n p v (countedConfirmed q _ c w u s e e′ y) z =
-      let l : live ((g .node x) .phase) ≡ true = confirming-live f x h g I (c .in-confirming) in
-      past-live (g .node x) v (w .same-incarnation) l (λ z. live-not-fetching (g .node x) l (sym u ∙ z)) (omega (arith, w .same-attempt)) (λ z. clash (cc))
+      let l : live ((g .node x) .phase) ≡ true = confirming-live f x h g I (c .in-confirming) in past-writes (g .node x) v w l (rw u l) (λ y. clash (cc))
   past-change n p v (finished q _ _ c m w u s r) z =
-      past-live (g .node x) v (w .same-incarnation) (confirming-live f x h g I (c .in-confirming)) (λ z. clash (cc)) (omega (arith, w .same-attempt)) (λ z. clash (cc))
-  past-change n p v (countedTable _ q r _ t u s c m) z = λ j a b. past-earlier v j a (omega (arith, b .before-fetching (t .was-fetching), t .same-incarnation))
-  past-change n p v (rebuilt _ q r _ t c u m b′) z = λ j a b. past-earlier v j a (omega (arith, b .before-fetching (t .was-fetching), t .same-incarnation))
+      past-writes (g .node x) v w (confirming-live f x h g I (c .in-confirming)) (rw u) (λ y. clash (cc))
+  past-change n p v (countedTable _ q r _ t u s c m) z = past-fetching (g .node p) v (t .was-fetching) (t .same-incarnation)
+  past-change n p v (rebuilt _ q r _ t c u m b) z = past-fetching (g .node p) v (t .was-fetching) (t .same-incarnation)
   past-change n p v (wentOn _ _ d l k) z = absurd (d z)
   past-change n p v (unchanged _ _ e) z = λ i a b. rw e b
 
   pub past-next : (n : Note) (p : ℕ) (v : ViewNode) → Change f x g n p v → (i a : ℕ) → Past i a (g .node x) → Past i a (replaced (g .node) p v x)
-  past-next n p v c i a = replaced-each (λ q w. q ≡ x → Past i a (g .node q) → Past i a w) (g .node) p v (λ z. past-change n p v c z i a) (λ q d z b. b) x refl
+  past-next n p v c i a = replaced-each (λ q w. q ≡ x → Past i a (g .node q) → Past i a w) (g .node) p v
+      (λ z. past-change n p v c z i a) (λ q d z b. b) x refl
