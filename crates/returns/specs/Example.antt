@@ -14,9 +14,9 @@ use Rattle.returns.specs.Replace.{replaced}
 use Rattle.returns.specs.Majority.{count}
 use Rattle.returns.specs.Rank.{Above, above-refl, above-ranks}
 use Rattle.returns.specs.History.{Note, quiet, begins, settles, returns, atSetUp, Kept}
-use Rattle.returns.specs.View.{ViewPhase, down, fetching, returning, up, ViewStage, idle, storing, confirming, ViewNode, ViewMessage, storeTo, storedBy, confirmTo, confirmedBy, fetchFrom, tableFrom, View, Sent, Each, each-nil, each-cons, clash}
+use Rattle.returns.specs.View.{ViewPhase, down, fetching, returning, up, ViewStage, idle, storing, confirming, ViewNode, ViewMessage, storeTo, storedBy, confirmTo, confirmedBy, fetchFrom, tableFrom, View, put, Sent, Each, each-nil, each-cons, clash}
 use Rattle.returns.specs.Merge.{merged-first, merged-lower}
-use Rattle.returns.specs.Change.{SameWrite, StaysLive, Present, CountsStored, CountsConfirmed, wrote, crashed, started, tookStore, askedConfirm, finished, countedTable, rebuilt, unchanged, did}
+use Rattle.returns.specs.Change.{SameWrite, StaysLive, Present, CountsStored, CountsConfirmed, Finishes, wrote, crashed, started, tookStore, askedConfirm, finished, countedTable, rebuilt, unchanged, did}
 use Rattle.returns.specs.Returns.{SetUp, Run, end, then, returns-kept}
 
 -- index 1, tag 65
@@ -102,25 +102,53 @@ counts-confirmed : (g : View) (i : ℕ) → Sent (confirmedBy 1 1 i 1 written) g
 counts-confirmed g i m s p a u =
     record { incarnation = 1; other = i; attempt = 1; item = written; was-sent = m; in-confirming = s; present = p; was-asked = a; asked-under = u }
 
+-- The four deliveries by which node 1 stores and confirms what node 0 writes under incarnation i, and the view after each.
+abbrev afterStore : View → ℕ → View
+afterStore g i = put g 1 (quietNode 1 up written) (storedBy 1 1 i 1 written ∷ [])
+
+abbrev afterStored : View → ℕ → ViewPhase → View
+afterStored g i phase = put (afterStore g i) 0 (confirmingNode i phase) (confirmTo 1 i 1 1 written ∷ [])
+
+abbrev afterConfirm : View → ℕ → ViewPhase → View
+afterConfirm g i phase = put (afterStored g i phase) 1 (quietNode 1 up written) (confirmedBy 1 1 i 1 written ∷ [])
+
+abbrev afterConfirmed : View → ℕ → ViewPhase → View
+afterConfirmed g i phase = put (afterConfirm g i phase) 0 (idleNode i) []
+
+round : (g : View) (i : ℕ) (phase : ViewPhase) (k : Item) (n : Note) (l : List Note) → g .node 0 ≡ storingNode i phase → g .node 1 ≡ quietNode 1 up k
+    → Sent (storeTo 1 i 1 written) g → Above k written → Finishes (storingNode i phase) n
+    → Run 1 0 (afterConfirmed g i phase) l → Run 1 0 g (quiet ∷ quiet ∷ quiet ∷ n ∷ l)
+unfolding storingNode confirmingNode idleNode count
+round g i phase k n l e₀ e₁ m a d r =
+    then {g = g} {g′ = afterStore g i}
+    (did (tookStore 1 i 1 written (quietNode 1 up written) one-not-zero m (rw e₁ a) (stays (rw e₁) (rw e₁) refl) refl)
+    (one _ (storedBy 1 1 i 1 written) (refl, refl, refl, refl)))
+    (then {g = afterStore g i} {g′ = afterStored g i phase}
+    (did (askedConfirm 1 1 (confirmingNode i phase)
+    (counts-stored (afterStore g i) i (List·Memᴰ·head refl) (rw e₀) (record { present-incarnation = rw e₀; present-attempt = rw e₀; present-item = rw e₀ }))
+    (same-write (rw e₀) (rw e₀) (rw e₀)) (rw e₀) refl (rw e₀) (rw e₀) (λ q. refl))
+    (one _ (confirmTo 1 i 1 1 written) (refl, refl, refl, refl)))
+    (then {g = afterStored g i phase} {g′ = afterConfirm g i phase}
+    (did (unchanged 1 (quietNode 1 up written) refl) (one _ (confirmedBy 1 1 i 1 written) (refl, refl, 1, List·Memᴰ·head refl)))
+    (then {g = afterConfirm g i phase} {g′ = afterConfirmed g i phase}
+    (did (finished 1 n (idleNode i)
+    (counts-confirmed (afterConfirm g i phase) i (List·Memᴰ·head refl) refl (record { present-incarnation = refl; present-attempt = refl; present-item = refl }) refl refl)
+    (lit≤ tt) (same-write refl refl refl) refl refl (record { when-up = d .when-up; when-returning = d .when-returning }))
+    (each-nil _))
+    r)))
+
 drillNotes : List Note
-drillNotes = begins (record { 0 = 65 }) ∷ quiet ∷ quiet ∷ quiet ∷ settles written ∷ quiet ∷ quiet ∷ quiet ∷ quiet ∷ quiet ∷ quiet ∷ quiet ∷ quiet ∷ quiet ∷ returns written ∷ []
+drillNotes =
+    begins (record { 0 = 65 }) ∷ quiet ∷ quiet ∷ quiet ∷ settles written ∷
+    quiet ∷ quiet ∷ quiet ∷ quiet ∷ quiet ∷ quiet ∷ quiet ∷ quiet ∷ quiet ∷ returns written ∷ []
 
 drill : Run 1 0 setUpView drillNotes
 unfolding setUpView setUpNode storingNode confirmingNode idleNode fetchingNode count drillNotes ranksBelow indexBelow
 drill =
     then (did (wrote (record { 0 = 65 }) (storingNode 1 up) refl refl (record { same-incarnation = refl; now-storing = refl; none-counted = λ q. refl }) refl (lit< tt) refl)
     (both _ (storeTo 1 1 1 written) (storeTo 2 1 1 written) refl refl))
-    (then (did (tookStore 1 1 1 written (quietNode 1 up written) one-not-zero (List·Memᴰ·head refl) written-above (stays refl refl refl) refl)
-    (one _ (storedBy 1 1 1 1 written) (refl, refl, refl, refl)))
-    (then (did (askedConfirm 1 1 (confirmingNode 1 up)
-    (counts-stored _ 1 (List·Memᴰ·head refl) refl (record { present-incarnation = refl; present-attempt = refl; present-item = refl }))
-    (same-write refl refl refl) refl refl refl refl (λ q. refl))
-    (one _ (confirmTo 1 1 1 1 written) (refl, refl, refl, refl)))
-    (then (did (unchanged 1 _ refl) (one _ (confirmedBy 1 1 1 1 written) (refl, refl, 1, List·Memᴰ·head refl)))
-    (then (did (finished 1 (settles written) (idleNode 1)
-    (counts-confirmed _ 1 (List·Memᴰ·head refl) refl (record { present-incarnation = refl; present-attempt = refl; present-item = refl }) refl refl)
-    (lit≤ tt) (same-write refl refl refl) refl refl (record { when-up = λ e. refl; when-returning = λ e. absurd (up-not-returning e) }))
-    (each-nil _))
+    (round _ 1 up zeroItem (settles written) _ refl refl (List·Memᴰ·head refl) written-above
+    (record { when-up = λ e. refl; when-returning = λ e. absurd (up-not-returning e) })
     (then (did (crashed 0 (quietNode 1 down zeroItem) refl refl refl refl) (each-nil _))
     (then (did (started 0 (quietNode 2 fetching zeroItem) refl refl refl refl (λ q. refl))
     (both _ (fetchFrom 0 1 2) (fetchFrom 0 2 2) (refl, refl) (refl, refl)))
@@ -134,18 +162,9 @@ drill =
     (record { other = 2; was-sent = List·Memᴰ·head refl; present-incarnation = refl; was-fetching = refl; same-incarnation = refl })
     (lit≤ tt) refl (merged-lower _ zeroItem refl) (λ e. record { same-incarnation = refl; now-storing = refl; none-counted = λ q. refl }))
     (both _ (storeTo 1 2 1 written) (storeTo 2 2 1 written) refl refl))
-    (then (did (tookStore 1 2 1 written (quietNode 1 up written) one-not-zero (List·Memᴰ·head refl) (above-refl written) (stays refl refl refl) refl)
-    (one _ (storedBy 1 1 2 1 written) (refl, refl, refl, refl)))
-    (then (did (askedConfirm 1 1 (confirmingNode 2 returning)
-    (counts-stored _ 2 (List·Memᴰ·head refl) refl (record { present-incarnation = refl; present-attempt = refl; present-item = refl }))
-    (same-write refl refl refl) refl refl refl refl (λ q. refl))
-    (one _ (confirmTo 1 2 1 1 written) (refl, refl, refl, refl)))
-    (then (did (unchanged 1 _ refl) (one _ (confirmedBy 1 1 2 1 written) (refl, refl, 1, List·Memᴰ·head refl)))
-    (then (did (finished 1 (returns written) (idleNode 2)
-    (counts-confirmed _ 2 (List·Memᴰ·head refl) refl (record { present-incarnation = refl; present-attempt = refl; present-item = refl }) refl refl)
-    (lit≤ tt) (same-write refl refl refl) refl refl (record { when-up = λ e. absurd (returning-not-up e); when-returning = λ e. refl }))
-    (each-nil _))
-    end))))))))))))))
+    (round _ 2 returning written (returns written) _ refl refl (List·Memᴰ·head refl) (above-refl written)
+    (record { when-up = λ e. absurd (returning-not-up e); when-returning = λ e. refl })
+    end))))))))
 
 set-up : (p : ℕ) → SetUp (setUpView .node p)
 unfolding setUpView setUpNode
