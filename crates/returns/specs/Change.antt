@@ -91,44 +91,44 @@ module _ (f x : ℕ) where
   -- node p becomes v, and the call tells the note
   pub data Change (g : View) : Note → ℕ → ViewNode → Type 0 where
     -- Write at x
-    wrote : (t : Tag) (v : ViewNode) → (g .node x) .phase ≡ up → (g .node x) .stage ≡ idle → BeginsStoring (g .node x) v
+    atWrite : (t : Tag) (v : ViewNode) → (g .node x) .phase ≡ up → (g .node x) .stage ≡ idle → BeginsStoring (g .node x) v
         → v .phase ≡ up → (g .node x) .attempt < v .attempt → v .item ≡ oneAbove ((g .node x) .item) t → Change g (begins t) x v
     -- Retry at x, Returning or Up
-    retried : (v : ViewNode) → ((g .node x) .stage ≡ idle → ⊥) → BeginsStoring (g .node x) v
+    atRetry : (v : ViewNode) → ((g .node x) .stage ≡ idle → ⊥) → BeginsStoring (g .node x) v
         → v .phase ≡ (g .node x) .phase → (g .node x) .attempt < v .attempt → v .item ≡ (g .node x) .item → Change g quiet x v
     -- Crash at any node, or "stopped"
-    crashed : (p : ℕ) (v : ViewNode) → v .incarnation ≡ (g .node p) .incarnation → v .phase ≡ down → v .stage ≡ idle
+    atCrash : (p : ℕ) (v : ViewNode) → v .incarnation ≡ (g .node p) .incarnation → v .phase ≡ down → v .stage ≡ idle
         → v .item ≡ zeroItem → Change g quiet p v
     -- Start at any node
-    started : (p : ℕ) (v : ViewNode) → v .incarnation ≡ suc ((g .node p) .incarnation) → v .phase ≡ fetching → v .stage ≡ idle
+    atStart : (p : ℕ) (v : ViewNode) → v .incarnation ≡ suc ((g .node p) .incarnation) → v .phase ≡ fetching → v .stage ≡ idle
         → v .item ≡ zeroItem → ((q : ℕ) → v .counted q ≡ false) → Change g quiet p v
     -- a Store of x taken by another node
-    tookStore : (p i a : ℕ) (k : Item) (v : ViewNode) → p ≢ x → Sent (storeTo p i a k) g → Above ((g .node p) .item) k
+    atStore : (p i a : ℕ) (k : Item) (v : ViewNode) → p ≢ x → Sent (storeTo p i a k) g → Above ((g .node p) .item) k
         → StaysLive (g .node p) v → v .item ≡ k → Change g quiet p v
     -- a Stored counted by x, and still fewer than f
-    countedStored : (q i : ℕ) (v : ViewNode) → CountsStored x g q i → SameWrite (g .node x) v → v .phase ≡ (g .node x) .phase
+    atStored : (q i : ℕ) (v : ViewNode) → CountsStored x g q i → SameWrite (g .node x) v → v .phase ≡ (g .node x) .phase
         → v .stage ≡ storing → v .counted ≡ replaced ((g .node x) .counted) q true
         → v .countedUnder ≡ replaced ((g .node x) .countedUnder) q i → Change g quiet x v
     -- the f-th Stored: x asks those counted to confirm
-    askedConfirm : (q i : ℕ) (v : ViewNode) → CountsStored x g q i → SameWrite (g .node x) v → v .phase ≡ (g .node x) .phase
+    atLastStored : (q i : ℕ) (v : ViewNode) → CountsStored x g q i → SameWrite (g .node x) v → v .phase ≡ (g .node x) .phase
         → v .stage ≡ confirming → v .asked ≡ replaced ((g .node x) .counted) q true
         → v .askedUnder ≡ replaced ((g .node x) .countedUnder) q i → ((k : ℕ) → v .counted k ≡ false) → Change g quiet x v
     -- a Confirmed counted by x, and still fewer than f
-    countedConfirmed : (q : ℕ) (v : ViewNode) → CountsConfirmed x g q → SameWrite (g .node x) v → v .phase ≡ (g .node x) .phase
+    atConfirmed : (q : ℕ) (v : ViewNode) → CountsConfirmed x g q → SameWrite (g .node x) v → v .phase ≡ (g .node x) .phase
         → v .stage ≡ confirming → v .counted ≡ replaced ((g .node x) .counted) q true → v .asked ≡ (g .node x) .asked
         → v .askedUnder ≡ (g .node x) .askedUnder → Change g quiet x v
     -- the f-th Confirmed: x is done
-    finished : (q : ℕ) (n : Note) (v : ViewNode) → CountsConfirmed x g q → f ≤ count (replaced ((g .node x) .counted) q true) (groupSize f)
+    atLastConfirmed : (q : ℕ) (n : Note) (v : ViewNode) → CountsConfirmed x g q → f ≤ count (replaced ((g .node x) .counted) q true) (groupSize f)
         → SameWrite (g .node x) v → v .phase ≡ up → v .stage ≡ idle → Finishes (g .node x) n → Change g n x v
     -- a Table counted by any node, and still fewer than f + 1
-    countedTable : (p q : ℕ) (r : Item) (v : ViewNode) → CountsTable g p q r v → v .phase ≡ fetching → v .stage ≡ idle
+    atTable : (p q : ℕ) (r : Item) (v : ViewNode) → CountsTable g p q r v → v .phase ≡ fetching → v .stage ≡ idle
         → v .counted ≡ replaced ((g .node p) .counted) q true → Merged (g .node p) r (v .item) (v .marked) → Change g quiet p v
     -- the (f + 1)-th Table, and row x is not marked: the node is Returning; of x it is used that it begins to store
-    rebuilt : (p q : ℕ) (r : Item) (v : ViewNode) → CountsTable g p q r v → suc f ≤ count (replaced ((g .node p) .counted) q true) (groupSize f)
+    atLastTable : (p q : ℕ) (r : Item) (v : ViewNode) → CountsTable g p q r v → suc f ≤ count (replaced ((g .node p) .counted) q true) (groupSize f)
         → v .phase ≡ returning → Merged (g .node p) r (v .item) false → (p ≡ x → BeginsStoring (g .node p) v) → Change g quiet p v
     -- Any call at a live node other than x that leaves row x alone: its own write goes on, or is finished, or it takes a
     -- Store of a third node.
-    wentOn : (p : ℕ) (v : ViewNode) → p ≢ x → StaysLive (g .node p) v → v .item ≡ (g .node p) .item → Change g quiet p v
+    elsewhere : (p : ℕ) (v : ViewNode) → p ≢ x → StaysLive (g .node p) v → v .item ≡ (g .node p) .item → Change g quiet p v
     -- Any call that changes nothing of a node that the view shows: Fetch sent again, a Confirm or a Fetch answered, a Store
     -- of another writer taken by x.
     unchanged : (p : ℕ) (v : ViewNode) → v ≡ g .node p → Change g quiet p v

@@ -11,7 +11,7 @@ use Rattle.returns.specs.Majority.{bit, count, groupSize, count-replaced
 use Rattle.returns.specs.Rank.{Above, above-refl}
 use Rattle.returns.specs.History.{Note, History, afterNote}
 use Rattle.returns.specs.View.{down, up, confirming, ViewNode, ViewMessage, confirmedBy, View, live, put, Sent, Each, clash}
-use Rattle.returns.specs.Change.{Present, CountsStored, CountsConfirmed, SameWrite, MaySend, Change, wrote, retried, crashed, started, tookStore, countedStored, askedConfirm, countedConfirmed, finished, countedTable, rebuilt, wentOn, unchanged}
+use Rattle.returns.specs.Change.{Present, CountsStored, CountsConfirmed, SameWrite, MaySend, Change, atWrite, atRetry, atCrash, atStart, atStore, atStored, atLastStored, atConfirmed, atLastConfirmed, atTable, atLastTable, elsewhere, unchanged}
 use Rattle.returns.specs.Quorum.{Holds, KeepsHeld, holds-live, holds-down, live-not-fetching}
 use Rattle.returns.specs.Invariant.{Answered, HasConfirmed, MayConfirm, Asked, Quorum, Invariant}
 use Rattle.returns.specs.Turns.{Forward, storing-live}
@@ -105,18 +105,18 @@ module _ (f x : ℕ) (h : History) (g : View) (I : Invariant f x h g) where
 
   asked-change : (n : Note) (p : ℕ) (v : ViewNode) (ms : List ViewMessage) → Change f x g n p v → Each (MaySend x g p v) ms
       → ((w : ViewNode) → Asked f x g w → Asked f x (put g p v ms) w) → p ≡ x → v .stage ≡ confirming → Asked f x (put g p v ms) v
-  asked-change n p v ms (wrote t _ e s b u a k) send keep z st = let s′ = b .now-storing in clash (cc)
-  asked-change n p v ms (retried _ d b u a k) send keep z st = let s′ = b .now-storing in clash (cc)
-  asked-change n p v ms (crashed _ _ i u s k) send keep z st = clash (cc)
-  asked-change n p v ms (started _ _ i u s k c) send keep z st = clash (cc)
-  asked-change n p v ms (tookStore _ i a k _ d m r l e) send keep z st = absurd (d z)
-  asked-change n p v ms (countedStored q i _ c w u s e e′) send keep z st = clash (cc)
-  asked-change n p v ms (askedConfirm q i _ c w u s e e′ y) send keep z st = asked-new q i v ms c w u e e′ y send
-  asked-change n p v ms (countedConfirmed q _ c w u s e e′ y) send keep z st = keep v (asked-more q v c w e e′ y)
-  asked-change n p v ms (finished q _ _ c m w u s r) send keep z st = clash (cc)
-  asked-change n p v ms (countedTable _ q r _ t u s c m) send keep z st = clash (cc)
-  asked-change n p v ms (rebuilt _ q r _ t c u m b) send keep z st = let s′ = (b z) .now-storing in clash (cc)
-  asked-change n p v ms (wentOn _ _ d l k) send keep z st = absurd (d z)
+  asked-change n p v ms (atWrite t _ e s b u a k) send keep z st = let s′ = b .now-storing in clash (cc)
+  asked-change n p v ms (atRetry _ d b u a k) send keep z st = let s′ = b .now-storing in clash (cc)
+  asked-change n p v ms (atCrash _ _ i u s k) send keep z st = clash (cc)
+  asked-change n p v ms (atStart _ _ i u s k c) send keep z st = clash (cc)
+  asked-change n p v ms (atStore _ i a k _ d m r l e) send keep z st = absurd (d z)
+  asked-change n p v ms (atStored q i _ c w u s e e′) send keep z st = clash (cc)
+  asked-change n p v ms (atLastStored q i _ c w u s e e′ y) send keep z st = asked-new q i v ms c w u e e′ y send
+  asked-change n p v ms (atConfirmed q _ c w u s e e′ y) send keep z st = keep v (asked-more q v c w e e′ y)
+  asked-change n p v ms (atLastConfirmed q _ _ c m w u s r) send keep z st = clash (cc)
+  asked-change n p v ms (atTable _ q r _ t u s c m) send keep z st = clash (cc)
+  asked-change n p v ms (atLastTable _ q r _ t c u m b) send keep z st = let s′ = (b z) .now-storing in clash (cc)
+  asked-change n p v ms (elsewhere _ _ d l k) send keep z st = absurd (d z)
   asked-change n p v ms (unchanged _ _ e) send keep z st =
       keep v (rw e (of-x x g (λ w. w .stage ≡ confirming → Asked f x g w) p z (I .asked) (rw e at st)))
 

@@ -16,7 +16,7 @@ use Rattle.returns.specs.Rank.{Above, above-refl, above-ranks}
 use Rattle.returns.specs.History.{Note, quiet, begins, settles, returns, atSetUp, Kept}
 use Rattle.returns.specs.View.{ViewPhase, down, fetching, returning, up, ViewStage, idle, storing, confirming, ViewNode, ViewMessage, storeTo, storedBy, confirmTo, confirmedBy, fetchFrom, tableFrom, View, put, Sent, Each, each-nil, each-cons, clash}
 use Rattle.returns.specs.Merge.{merged-first, merged-lower}
-use Rattle.returns.specs.Change.{SameWrite, StaysLive, Present, CountsStored, CountsConfirmed, Finishes, wrote, crashed, started, tookStore, askedConfirm, finished, countedTable, rebuilt, unchanged, did}
+use Rattle.returns.specs.Change.{SameWrite, StaysLive, Present, CountsStored, CountsConfirmed, Finishes, atWrite, atCrash, atStart, atStore, atLastStored, atLastConfirmed, atTable, atLastTable, unchanged, did}
 use Rattle.returns.specs.Returns.{SetUp, Run, end, then, returns-kept}
 
 -- index 1, tag 65
@@ -121,17 +121,17 @@ round : (g : View) (i : ℕ) (phase : ViewPhase) (k : Item) (n : Note) (l : List
 unfolding storingNode confirmingNode idleNode count
 round g i phase k n l e₀ e₁ m a d r =
     then {g = g} {g′ = afterStore g i}
-    (did (tookStore 1 i 1 written (quietNode 1 up written) one-not-zero m (rw e₁ a) (stays (rw e₁) (rw e₁) refl) refl)
+    (did (atStore 1 i 1 written (quietNode 1 up written) one-not-zero m (rw e₁ a) (stays (rw e₁) (rw e₁) refl) refl)
     (one _ (storedBy 1 1 i 1 written) (refl, refl, refl, refl)))
     (then {g = afterStore g i} {g′ = afterStored g i phase}
-    (did (askedConfirm 1 1 (confirmingNode i phase)
+    (did (atLastStored 1 1 (confirmingNode i phase)
     (counts-stored (afterStore g i) i (List·Memᴰ·head refl) (rw e₀) (record { present-incarnation = rw e₀; present-attempt = rw e₀; present-item = rw e₀ }))
     (same-write (rw e₀) (rw e₀) (rw e₀)) (rw e₀) refl (rw e₀) (rw e₀) (λ q. refl))
     (one _ (confirmTo 1 i 1 1 written) (refl, refl, refl, refl)))
     (then {g = afterStored g i phase} {g′ = afterConfirm g i phase}
     (did (unchanged 1 (quietNode 1 up written) refl) (one _ (confirmedBy 1 1 i 1 written) (refl, refl, 1, List·Memᴰ·head refl)))
     (then {g = afterConfirm g i phase} {g′ = afterConfirmed g i phase}
-    (did (finished 1 n (idleNode i)
+    (did (atLastConfirmed 1 n (idleNode i)
     (counts-confirmed (afterConfirm g i phase) i (List·Memᴰ·head refl) refl (record { present-incarnation = refl; present-attempt = refl; present-item = refl }) refl refl)
     (lit≤ tt) (same-write refl refl refl) refl refl (record { when-up = d .when-up; when-returning = d .when-returning }))
     (each-nil _))
@@ -145,20 +145,20 @@ drillNotes =
 drill : Run 1 0 setUpView drillNotes
 unfolding setUpView setUpNode storingNode confirmingNode idleNode fetchingNode count drillNotes ranksBelow indexBelow
 drill =
-    then (did (wrote (record { 0 = 65 }) (storingNode 1 up) refl refl (record { same-incarnation = refl; now-storing = refl; none-counted = λ q. refl }) refl (lit< tt) refl)
+    then (did (atWrite (record { 0 = 65 }) (storingNode 1 up) refl refl (record { same-incarnation = refl; now-storing = refl; none-counted = λ q. refl }) refl (lit< tt) refl)
     (both _ (storeTo 1 1 1 written) (storeTo 2 1 1 written) refl refl))
     (round _ 1 up zeroItem (settles written) _ refl refl (List·Memᴰ·head refl) written-above
     (record { when-up = λ e. refl; when-returning = λ e. absurd (up-not-returning e) })
-    (then (did (crashed 0 (quietNode 1 down zeroItem) refl refl refl refl) (each-nil _))
-    (then (did (started 0 (quietNode 2 fetching zeroItem) refl refl refl refl (λ q. refl))
+    (then (did (atCrash 0 (quietNode 1 down zeroItem) refl refl refl refl) (each-nil _))
+    (then (did (atStart 0 (quietNode 2 fetching zeroItem) refl refl refl refl (λ q. refl))
     (both _ (fetchFrom 0 1 2) (fetchFrom 0 2 2) (refl, refl) (refl, refl)))
     (then (did (unchanged 1 _ refl) (one _ (tableFrom 1 0 2 written) (refl, refl, refl, List·Memᴰ·head refl)))
     (then (did (unchanged 2 _ refl) (one _ (tableFrom 2 0 2 zeroItem) (refl, refl, refl, List·Memᴰ·tail (List·Memᴰ·tail (List·Memᴰ·head refl)))))
-    (then (did (countedTable 0 1 written fetchingNode
+    (then (did (atTable 0 1 written fetchingNode
     (record { other = 2; was-sent = List·Memᴰ·tail (List·Memᴰ·head refl); present-incarnation = refl; was-fetching = refl; same-incarnation = refl })
     refl refl refl (merged-first _ written false (λ q. refl)))
     (each-nil _))
-    (then (did (rebuilt 0 2 zeroItem (storingNode 2 returning)
+    (then (did (atLastTable 0 2 zeroItem (storingNode 2 returning)
     (record { other = 2; was-sent = List·Memᴰ·head refl; present-incarnation = refl; was-fetching = refl; same-incarnation = refl })
     (lit≤ tt) refl (merged-lower _ zeroItem refl) (λ e. record { same-incarnation = refl; now-storing = refl; none-counted = λ q. refl }))
     (both _ (storeTo 1 2 1 written) (storeTo 2 2 1 written) refl refl))

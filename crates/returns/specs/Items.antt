@@ -14,7 +14,7 @@ use Rattle.returns.specs.Majority.{count, groupSize}
 use Rattle.returns.specs.Rank.{Above, above-higher, above-index, above-cases, oneAbove}
 use Rattle.returns.specs.History.{Note, quiet, begins, settles, returns, History, afterNote, May}
 use Rattle.returns.specs.View.{ViewPhase, down, fetching, returning, up, idle, ViewNode, View, live, clash}
-use Rattle.returns.specs.Change.{CountsConfirmed, Finishes, Change, wrote, retried, crashed, started, tookStore, countedStored, askedConfirm, countedConfirmed, finished, countedTable, rebuilt, wentOn, unchanged}
+use Rattle.returns.specs.Change.{CountsConfirmed, Finishes, Change, atWrite, atRetry, atCrash, atStart, atStore, atStored, atLastStored, atConfirmed, atLastConfirmed, atTable, atLastTable, elsewhere, unchanged}
 use Rattle.returns.specs.Invariant.{Known, Invariant}
 use Rattle.returns.specs.Turns.{confirming-live}
 
@@ -26,18 +26,18 @@ pub data Tells (f x : ℕ) (g : View) : Note → ℕ → Type 0 where
       → Finishes (g .node x) n → Tells f x g n x
 
 pub tells : (f x : ℕ) (g : View) (n : Note) (p : ℕ) (v : ViewNode) → Change f x g n p v → Tells f x g n p
-tells f x g n p v (wrote t _ e s b u a k) = tellsBegun t
-tells f x g n p v (retried _ d b u a k) = tellsNothing x
-tells f x g n p v (crashed _ _ i u s k) = tellsNothing p
-tells f x g n p v (started _ _ i u s k c) = tellsNothing p
-tells f x g n p v (tookStore _ i a k _ d m r l e) = tellsNothing p
-tells f x g n p v (countedStored q i _ c w u s e e′) = tellsNothing x
-tells f x g n p v (askedConfirm q i _ c w u s e e′ y) = tellsNothing x
-tells f x g n p v (countedConfirmed q _ c w u s e e′ y) = tellsNothing x
-tells f x g n p v (finished q _ _ c m w u s r) = tellsFinished q n c m r
-tells f x g n p v (countedTable _ q r _ t u s c m) = tellsNothing p
-tells f x g n p v (rebuilt _ q r _ t c u m b) = tellsNothing p
-tells f x g n p v (wentOn _ _ d l k) = tellsNothing p
+tells f x g n p v (atWrite t _ e s b u a k) = tellsBegun t
+tells f x g n p v (atRetry _ d b u a k) = tellsNothing x
+tells f x g n p v (atCrash _ _ i u s k) = tellsNothing p
+tells f x g n p v (atStart _ _ i u s k c) = tellsNothing p
+tells f x g n p v (atStore _ i a k _ d m r l e) = tellsNothing p
+tells f x g n p v (atStored q i _ c w u s e e′) = tellsNothing x
+tells f x g n p v (atLastStored q i _ c w u s e e′ y) = tellsNothing x
+tells f x g n p v (atConfirmed q _ c w u s e e′ y) = tellsNothing x
+tells f x g n p v (atLastConfirmed q _ _ c m w u s r) = tellsFinished q n c m r
+tells f x g n p v (atTable _ q r _ t u s c m) = tellsNothing p
+tells f x g n p v (atLastTable _ q r _ t c u m b) = tellsNothing p
+tells f x g n p v (elsewhere _ _ d l k) = tellsNothing p
 tells f x g n p v (unchanged _ _ e) = tellsNothing p
 
 -- only x's own calls tell anything
@@ -114,22 +114,22 @@ module _ (f x : ℕ) (h : History) (g : View) (I : Invariant f x h g) where
       go (inr e) = inr (omega (arith, k .not-far), k .was-begun (omega (arith, k .not-far)))
 
   pub item-change : (n : Note) (p : ℕ) (v : ViewNode) → Change f x g n p v → Known (afterNote h n) (v .item)
-  item-change n p v (wrote t _ e s b u a k) =
+  item-change n p v (atWrite t _ e s b u a k) =
       let i : v .item ≡ oneAbove (h .last) t = k ∙ ap (λ (j : Item). oneAbove j t) ((I .own) .when-idle e s) in
       rw i (record { not-far = omega arith; was-begun = λ z. List·Memᴰ·head refl })
-  item-change n p v (retried _ d b u a k) = rw k (I .items x)
-  item-change n p v (crashed _ _ i u s k) = rw k (known-zero h)
-  item-change n p v (started _ _ i u s k c) = rw k (known-zero h)
-  item-change n p v (tookStore _ i a k _ d m r l e) = rw e (I .messages _ m)
-  item-change n p v (countedStored q i _ c w u s e e′) = rw (w .same-item) (I .items x)
-  item-change n p v (askedConfirm q i _ c w u s e e′ y) = rw (w .same-item) (I .items x)
-  item-change n p v (countedConfirmed q _ c w u s e e′ y) = rw (w .same-item) (I .items x)
-  item-change n p v (finished q _ _ c m w u s r) = rw (w .same-item) (known-next n x (tellsFinished q n c m r) ((g .node x) .item) (I .items x))
-  item-change n p v (countedTable _ q r _ t u s c m) =
+  item-change n p v (atRetry _ d b u a k) = rw k (I .items x)
+  item-change n p v (atCrash _ _ i u s k) = rw k (known-zero h)
+  item-change n p v (atStart _ _ i u s k c) = rw k (known-zero h)
+  item-change n p v (atStore _ i a k _ d m r l e) = rw e (I .messages _ m)
+  item-change n p v (atStored q i _ c w u s e e′) = rw (w .same-item) (I .items x)
+  item-change n p v (atLastStored q i _ c w u s e e′ y) = rw (w .same-item) (I .items x)
+  item-change n p v (atConfirmed q _ c w u s e e′ y) = rw (w .same-item) (I .items x)
+  item-change n p v (atLastConfirmed q _ _ c m w u s r) = rw (w .same-item) (known-next n x (tellsFinished q n c m r) ((g .node x) .item) (I .items x))
+  item-change n p v (atTable _ q r _ t u s c m) =
       known-merged h (g .node p) r (v .item) (m .from) (I .items p) ((I .messages _ (t .was-sent)) .1)
-  item-change n p v (rebuilt _ q r _ t c u m b) =
+  item-change n p v (atLastTable _ q r _ t c u m b) =
       known-merged h (g .node p) r (v .item) (m .from) (I .items p) ((I .messages _ (t .was-sent)) .1)
-  item-change n p v (wentOn _ _ d l k) = rw k (I .items p)
+  item-change n p v (elsewhere _ _ d l k) = rw k (I .items p)
   item-change n p v (unchanged _ _ e) = rw e (I .items p)
 
   pub items-next : (n : Note) (p : ℕ) (v : ViewNode) → Change f x g n p v → (q : ℕ) → Known (afterNote h n) ((replaced (g .node) p v q) .item)

@@ -1,6 +1,7 @@
 -- Sets of nodes as flags, how many of the first n nodes a set has, and when two sets share a node.
 use Prim.Native.Nat.{ℕ, zero, suc, _+_, _≤_, _<_}
 use native.Mathlib.Omega.{arith}
+use native.Mathlib.Decide.{decLt}
 use mathlib.Core.Path.{_≡_, refl, ap}
 use mathlib.Core.Logic.{_≢_}
 use mathlib.Core.Bool.{Bool, true, false}
@@ -51,6 +52,22 @@ pub count-all : (n : ℕ) → count (λ q. true) n ≡ n
 unfolding count
 count-all zero = refl
 count-all (suc n) = omega (arith, count-all n)
+
+-- counting from the front, as a list is counted
+pub count-first : (a : ℕ → Bool) (n : ℕ) → count a (suc n) ≡ bit (a 0) + count (λ k. a (suc k)) n
+unfolding count
+count-first a zero = refl
+count-first a (suc n) = omega (arith, count-first a n)
+
+-- where no number from n on is flagged, counting further counts no more
+pub count-beyond : (a : ℕ → Bool) (n m : ℕ) → n ≤ m → ((k : ℕ) → n ≤ k → a k ≡ false) → count a m ≡ count a n
+unfolding count
+count-beyond a n zero l none = let e : n ≡ zero = omega arith in rw e
+count-beyond a n (suc m) l none = go (decLt m n) (λ k. count-beyond a n m k none)
+  where
+    go : Dec (m < n) → (n ≤ m → count a m ≡ count a n) → count a (suc m) ≡ count a n
+    go (yes d) r = let e : n ≡ suc m = omega arith in rw e
+    go (no d) r = omega (arith, ap bit (none m (omega arith)), r (omega arith))
 
 -- flags that are equal below n count alike
 count-alike : (a b : ℕ → Bool) (n : ℕ) → ((k : ℕ) → k < n → a k ≡ b k) → count a n ≡ count b n

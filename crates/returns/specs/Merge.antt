@@ -5,7 +5,8 @@ use mathlib.Core.Logic.{_⊎_, inl, inr}
 use mathlib.Core.Bool.{Bool, true, false, false≢true}
 use Rattle.item.specs.declared.Item.{Item}
 use Rattle.item.specs.Item.{ranksBelow}
-use Rattle.returns.specs.Rank.{Above, Covers, level-trans, covers-above, covers-ranks}
+use Rattle.item.specs.Laws.{rank-above-trans}
+use Rattle.returns.specs.Rank.{Above, Covers, covers-above, covers-ranks}
 use Rattle.returns.specs.View.{ViewNode}
 
 -- v counts a table whose row x is r; its own row x becomes `item`, marked or not
@@ -48,7 +49,7 @@ merged-level v r marked e e′ unmarked alike = record {
   from = inl refl;
   kept = λ q c s h. record { level = h .level; tie = λ m. h .tie (unmarked m) };
   taken = λ s h. record {
-    level = level-trans (v .item) r s e (h .level);
-    tie = λ m d. sym (alike m) ∙ h .tie (level-trans s (v .item) r d e);
+    level = rank-above-trans s r (v .item) (h .level) e;
+    tie = λ m d. sym (alike m) ∙ h .tie (rank-above-trans r (v .item) s e d);
   };
 }

@@ -8,7 +8,7 @@ use Rattle.returns.specs.Replace.{replaced, replaced-each, replaced-both
 use Rattle.returns.specs.Rank.{oneAbove}
 use Rattle.returns.specs.History.{Note, History, afterNote}
 use Rattle.returns.specs.View.{idle, storing, ViewNode, View, live, clash}
-use Rattle.returns.specs.Change.{CountsStored, BeginsStoring, Change, wrote, retried, crashed, started, tookStore, countedStored, askedConfirm, countedConfirmed, finished, countedTable, rebuilt, wentOn, unchanged}
+use Rattle.returns.specs.Change.{CountsStored, BeginsStoring, Change, atWrite, atRetry, atCrash, atStart, atStore, atStored, atLastStored, atConfirmed, atLastConfirmed, atTable, atLastTable, elsewhere, unchanged}
 use Rattle.returns.specs.Quorum.{rebuilt-above}
 use Rattle.returns.specs.Invariant.{Own, Answered, Polled, Quorum, Invariant}
 use Rattle.returns.specs.Turns.{Forward}
@@ -32,7 +32,7 @@ own-writes h v w o e i dv dw = record {
 
 module _ (f x : ℕ) (h : History) (g : View) (I : Invariant f x h g) where
   pub own-change : (n : Note) (p : ℕ) (v : ViewNode) → Change f x g n p v → p ≡ x → Own (afterNote h n) v
-  own-change n p v (wrote t _ e s b u a k) z =
+  own-change n p v (atWrite t _ e s b u a k) z =
       let s′ = b .now-storing in
       record {
         when-idle = λ y y′. clash (cc);
@@ -40,24 +40,24 @@ module _ (f x : ℕ) (h : History) (g : View) (I : Invariant f x h g) where
         when-returning = λ y. clash (cc);
         when-off = λ y. clash (cc);
       }
-  own-change n p v (retried _ d b u a k) z = let s = b .now-storing in own-writes h (g .node x) v (I .own) u k d (λ y. clash (cc))
-  own-change n p v (crashed _ _ i u s k) z = own-off h v (rw u) s
-  own-change n p v (started _ _ i u s k c) z = own-off h v (rw u) s
-  own-change n p v (tookStore _ i a k _ d m r l e) z = absurd (d z)
-  own-change n p v (countedStored q i _ c w u s e e′) z =
+  own-change n p v (atRetry _ d b u a k) z = let s = b .now-storing in own-writes h (g .node x) v (I .own) u k d (λ y. clash (cc))
+  own-change n p v (atCrash _ _ i u s k) z = own-off h v (rw u) s
+  own-change n p v (atStart _ _ i u s k c) z = own-off h v (rw u) s
+  own-change n p v (atStore _ i a k _ d m r l e) z = absurd (d z)
+  own-change n p v (atStored q i _ c w u s e e′) z =
       let s′ = c .in-storing in own-writes h (g .node x) v (I .own) u (w .same-item) (λ y. clash (cc)) (λ y. clash (cc))
-  own-change n p v (askedConfirm q i _ c w u s e e′ y) z =
+  own-change n p v (atLastStored q i _ c w u s e e′ y) z =
       let s′ = c .in-storing in own-writes h (g .node x) v (I .own) u (w .same-item) (λ y. clash (cc)) (λ y. clash (cc))
-  own-change n p v (countedConfirmed q _ c w u s e e′ y) z =
+  own-change n p v (atConfirmed q _ c w u s e e′ y) z =
       let s′ = c .in-confirming in own-writes h (g .node x) v (I .own) u (w .same-item) (λ y. clash (cc)) (λ y. clash (cc))
-  own-change n p v (finished q _ _ c m w u s r) z = rw (finished-is f x h g I q n c r) (record {
+  own-change n p v (atLastConfirmed q _ _ c m w u s r) z = rw (finished-is f x h g I q n c r) (record {
     when-idle = λ y y′. w .same-item;
     when-writing = λ y y′. absurd (y′ s);
     when-returning = λ y. clash (cc);
     when-off = λ y. clash (cc);
   })
-  own-change n p v (countedTable _ q r _ t u s c m) z = own-off h v (rw u) s
-  own-change n p v (rebuilt _ q r _ t c u m b) z = record {
+  own-change n p v (atTable _ q r _ t u s c m) z = own-off h v (rw u) s
+  own-change n p v (atLastTable _ q r _ t c u m b) z = record {
     when-idle = λ y. clash (cc);
     when-writing = λ y. clash (cc);
     when-returning = λ y. rebuilt-above (Q .members) (h .last) g p f (Q .many) q r v t c m (Q .held p (rw z (Q .with-x)));
@@ -66,7 +66,7 @@ module _ (f x : ℕ) (h : History) (g : View) (I : Invariant f x h g) where
     where
       Q : Quorum f x (h .last) g
       Q = I .quorum
-  own-change n p v (wentOn _ _ d l k) z = absurd (d z)
+  own-change n p v (elsewhere _ _ d l k) z = absurd (d z)
   own-change n p v (unchanged _ _ e) z = rw e (of-x x g (Own h) p z (I .own))
 
   pub own-next : (n : Note) (p : ℕ) (v : ViewNode) → Change f x g n p v → Own (afterNote h n) (replaced (g .node) p v x)
@@ -85,18 +85,18 @@ module _ (f x : ℕ) (h : History) (g : View) (I : Invariant f x h g) where
   none-polled v b q m = absurd (false≢true (sym (b .none-counted q) ∙ m))
 
   polled-change : (n : Note) (p : ℕ) (v : ViewNode) → Change f x g n p v → p ≡ x → v .stage ≡ storing → Polled x g v
-  polled-change n p v (wrote t _ e s b u a k) z st = none-polled v b
-  polled-change n p v (retried _ d b u a k) z st = none-polled v b
-  polled-change n p v (crashed _ _ i u s k) z st = clash (cc)
-  polled-change n p v (started _ _ i u s k c) z st = clash (cc)
-  polled-change n p v (tookStore _ i a k _ d m r l e) z st = absurd (d z)
-  polled-change n p v (countedStored q i _ c w u s e e′) z st = λ k m. rw (e′, w .same-item) (polled-more q i c k (rw e at m))
-  polled-change n p v (askedConfirm q i _ c w u s e e′ y) z st = clash (cc)
-  polled-change n p v (countedConfirmed q _ c w u s e e′ y) z st = clash (cc)
-  polled-change n p v (finished q _ _ c m w u s r) z st = clash (cc)
-  polled-change n p v (countedTable _ q r _ t u s c m) z st = clash (cc)
-  polled-change n p v (rebuilt _ q r _ t c u m b) z st = λ k j. absurd (false≢true (sym ((b z) .none-counted k) ∙ j))
-  polled-change n p v (wentOn _ _ d l k) z st = absurd (d z)
+  polled-change n p v (atWrite t _ e s b u a k) z st = none-polled v b
+  polled-change n p v (atRetry _ d b u a k) z st = none-polled v b
+  polled-change n p v (atCrash _ _ i u s k) z st = clash (cc)
+  polled-change n p v (atStart _ _ i u s k c) z st = clash (cc)
+  polled-change n p v (atStore _ i a k _ d m r l e) z st = absurd (d z)
+  polled-change n p v (atStored q i _ c w u s e e′) z st = λ k m. rw (e′, w .same-item) (polled-more q i c k (rw e at m))
+  polled-change n p v (atLastStored q i _ c w u s e e′ y) z st = clash (cc)
+  polled-change n p v (atConfirmed q _ c w u s e e′ y) z st = clash (cc)
+  polled-change n p v (atLastConfirmed q _ _ c m w u s r) z st = clash (cc)
+  polled-change n p v (atTable _ q r _ t u s c m) z st = clash (cc)
+  polled-change n p v (atLastTable _ q r _ t c u m b) z st = λ k j. absurd (false≢true (sym ((b z) .none-counted k) ∙ j))
+  polled-change n p v (elsewhere _ _ d l k) z st = absurd (d z)
   polled-change n p v (unchanged _ _ e) z st = rw e (of-x x g (λ w. w .stage ≡ storing → Polled x g w) p z (I .polled) (rw e at st))
 
   polled-forward : (g′ : View) (v : ViewNode) → ((q : ℕ) → Forward (g .node q) (g′ .node q)) → Polled x g v → Polled x g′ v

@@ -10,7 +10,7 @@ use Rattle.returns.specs.Replace.{replaced, replaced-each}
 use Rattle.returns.specs.Rank.{Above, above-refl, above-trans, above-higher, oneAbove}
 use Rattle.returns.specs.History.{History, Note}
 use Rattle.returns.specs.View.{down, fetching, up, idle, storing, confirming, ViewNode, View, live, clash}
-use Rattle.returns.specs.Change.{SameWrite, StaysLive, Change, wrote, retried, crashed, started, tookStore, countedStored, askedConfirm, countedConfirmed, finished, countedTable, rebuilt, wentOn, unchanged}
+use Rattle.returns.specs.Change.{SameWrite, StaysLive, Change, atWrite, atRetry, atCrash, atStart, atStore, atStored, atLastStored, atConfirmed, atLastConfirmed, atTable, atLastTable, elsewhere, unchanged}
 use Rattle.returns.specs.Quorum.{Turn, livesOn, goesDown, restarts, countsTable, rebuilds, stays, live-not-fetching}
 use Rattle.returns.specs.Invariant.{Answered, Past, Invariant, writing-live}
 
@@ -28,22 +28,22 @@ module _ (f x : ℕ) (h : History) (g : View) (I : Invariant f x h g) where
   confirming-live e = writing-live h (g .node x) (I .own) (λ z. clash (cc))
 
   pub turn-of : (n : Note) (p : ℕ) (v : ViewNode) → Change f x g n p v → Turn f g p v
-  turn-of n p v (wrote t _ e s b u a k) =
+  turn-of n p v (atWrite t _ e s b u a k) =
       livesOn (record { same-incarnation = b .same-incarnation; was-live = rw e; is-live = rw u; stays-up = λ z. u })
       (rw k (above-higher ((g .node x) .item) (oneAbove ((g .node x) .item) t) (omega arith)))
-  turn-of n p v (retried _ d b u a k) = goes-on f g p v (writing-live h (g .node x) (I .own) d) (b .same-incarnation) u k
-  turn-of n p v (crashed _ _ i u s k) = goesDown u i
-  turn-of n p v (started _ _ i u s k c) = restarts u i c
-  turn-of n p v (tookStore _ i a k _ d m r l e) = livesOn l (rw e r)
-  turn-of n p v (countedStored q i _ c w u s e e′) = goes-on f g p v (storing-live (c .in-storing)) (w .same-incarnation) u (w .same-item)
-  turn-of n p v (askedConfirm q i _ c w u s e e′ z) = goes-on f g p v (storing-live (c .in-storing)) (w .same-incarnation) u (w .same-item)
-  turn-of n p v (countedConfirmed q _ c w u s e e′ z) = goes-on f g p v (confirming-live (c .in-confirming)) (w .same-incarnation) u (w .same-item)
-  turn-of n p v (finished q _ _ c m w u s r) =
+  turn-of n p v (atRetry _ d b u a k) = goes-on f g p v (writing-live h (g .node x) (I .own) d) (b .same-incarnation) u k
+  turn-of n p v (atCrash _ _ i u s k) = goesDown u i
+  turn-of n p v (atStart _ _ i u s k c) = restarts u i c
+  turn-of n p v (atStore _ i a k _ d m r l e) = livesOn l (rw e r)
+  turn-of n p v (atStored q i _ c w u s e e′) = goes-on f g p v (storing-live (c .in-storing)) (w .same-incarnation) u (w .same-item)
+  turn-of n p v (atLastStored q i _ c w u s e e′ z) = goes-on f g p v (storing-live (c .in-storing)) (w .same-incarnation) u (w .same-item)
+  turn-of n p v (atConfirmed q _ c w u s e e′ z) = goes-on f g p v (confirming-live (c .in-confirming)) (w .same-incarnation) u (w .same-item)
+  turn-of n p v (atLastConfirmed q _ _ c m w u s r) =
       livesOn (record { same-incarnation = w .same-incarnation; was-live = confirming-live (c .in-confirming); is-live = rw u; stays-up = λ z. u })
       (rw (w .same-item) (above-refl ((g .node x) .item)))
-  turn-of n p v (countedTable _ q r _ t u s c m) = countsTable q r t u c m
-  turn-of n p v (rebuilt _ q r _ t c u m b) = rebuilds q r t c u m
-  turn-of n p v (wentOn _ _ d l k) = livesOn l (rw k (above-refl ((g .node p) .item)))
+  turn-of n p v (atTable _ q r _ t u s c m) = countsTable q r t u c m
+  turn-of n p v (atLastTable _ q r _ t c u m b) = rebuilds q r t c u m
+  turn-of n p v (elsewhere _ _ d l k) = livesOn l (rw k (above-refl ((g .node p) .item)))
   turn-of n p v (unchanged _ _ e) = stays e
 
 -- an incarnation never falls, and an answer stays true
@@ -136,25 +136,25 @@ past-down v w e d s i a b = record {
 
 module _ (f x : ℕ) (h : History) (g : View) (I : Invariant f x h g) where
   past-change : (n : Note) (p : ℕ) (v : ViewNode) → Change f x g n p v → p ≡ x → (i a : ℕ) → Past i a (g .node p) → Past i a v
-  past-change n p v (wrote t _ e s b u a k) z =
+  past-change n p v (atWrite t _ e s b u a k) z =
       past-live (g .node x) v (b .same-incarnation) (rw e) (λ y. clash (cc)) (omega arith) (λ y. inr a)
-  past-change n p v (retried _ d b u a k) z =
+  past-change n p v (atRetry _ d b u a k) z =
       let l : live ((g .node x) .phase) ≡ true = writing-live h (g .node x) (I .own) d in
       past-live (g .node x) v (b .same-incarnation) l (live-not-fetching v (rw u l)) (omega arith) (λ y. inr a)
-  past-change n p v (crashed _ _ i u s k) z = past-down (g .node p) v i u s
-  past-change n p v (started _ _ i u s k c) z = λ j a b. past-earlier v j a (omega (arith, b .not-later))
-  past-change n p v (tookStore _ i a k _ d m r l e) z = absurd (d z)
-  past-change n p v (countedStored q i _ c w u s e e′) z =
+  past-change n p v (atCrash _ _ i u s k) z = past-down (g .node p) v i u s
+  past-change n p v (atStart _ _ i u s k c) z = λ j a b. past-earlier v j a (omega (arith, b .not-later))
+  past-change n p v (atStore _ i a k _ d m r l e) z = absurd (d z)
+  past-change n p v (atStored q i _ c w u s e e′) z =
       let l : live ((g .node x) .phase) ≡ true = storing-live f x h g I (c .in-storing) in past-writes (g .node x) v w l (rw u l) (λ y. c .in-storing)
-  past-change n p v (askedConfirm q i _ c w u s e e′ y) z =
+  past-change n p v (atLastStored q i _ c w u s e e′ y) z =
       let l : live ((g .node x) .phase) ≡ true = storing-live f x h g I (c .in-storing) in past-writes (g .node x) v w l (rw u l) (λ y. c .in-storing)
-  past-change n p v (countedConfirmed q _ c w u s e e′ y) z =
+  past-change n p v (atConfirmed q _ c w u s e e′ y) z =
       let l : live ((g .node x) .phase) ≡ true = confirming-live f x h g I (c .in-confirming) in past-writes (g .node x) v w l (rw u l) (λ y. clash (cc))
-  past-change n p v (finished q _ _ c m w u s r) z =
+  past-change n p v (atLastConfirmed q _ _ c m w u s r) z =
       past-writes (g .node x) v w (confirming-live f x h g I (c .in-confirming)) (rw u) (λ y. clash (cc))
-  past-change n p v (countedTable _ q r _ t u s c m) z = past-fetching (g .node p) v (t .was-fetching) (t .same-incarnation)
-  past-change n p v (rebuilt _ q r _ t c u m b) z = past-fetching (g .node p) v (t .was-fetching) (t .same-incarnation)
-  past-change n p v (wentOn _ _ d l k) z = absurd (d z)
+  past-change n p v (atTable _ q r _ t u s c m) z = past-fetching (g .node p) v (t .was-fetching) (t .same-incarnation)
+  past-change n p v (atLastTable _ q r _ t c u m b) z = past-fetching (g .node p) v (t .was-fetching) (t .same-incarnation)
+  past-change n p v (elsewhere _ _ d l k) z = absurd (d z)
   past-change n p v (unchanged _ _ e) z = λ i a b. rw e b
 
   pub past-next : (n : Note) (p : ℕ) (v : ViewNode) → Change f x g n p v → (i a : ℕ) → Past i a (g .node x) → Past i a (replaced (g .node) p v x)
