@@ -1,7 +1,9 @@
 -- What one accepted call can do in x's view: one node changes, and messages are sent. `Change` has a case for each kind of
 -- event, `MaySend` one for each kind of message. Each asks only the facts that the proof needs, about the fields that it
 -- needs: the node after a change is any node of which the facts hold, so that what a definition gives need not be matched
--- field by field.
+-- field by field. Document 01 asks more than the proof needs: that a node starts from Down only, that no answer is counted
+-- twice, that exactly f are asked, that a Confirm fits the addressee's row and incarnation (x compares the incarnation in
+-- the Confirmed with the recorded one), and that a node which answers Fetch is Up (Returning would do).
 use Prim.Native.Nat.{ℕ, suc, _≤_, _<_}
 use mathlib.Core.Path.{_≡_, refl, sym, fun-ext, subst}
 use mathlib.Core.Logic.{_≢_}
@@ -14,7 +16,8 @@ use Rattle.returns.specs.Replace.{replaced, replaced-each}
 use Rattle.returns.specs.Majority.{count, groupSize}
 use Rattle.returns.specs.Rank.{Above, oneAbove}
 use Rattle.returns.specs.History.{Note, quiet, begins, settles, returns}
-use Rattle.returns.specs.View.{down, fetching, returning, up, idle, storing, confirming, ViewNode, ViewMessage, storeTo, storedBy, confirmTo, confirmedBy, fetchFrom, tableFrom, View, live, put, Sent, Each}
+use Rattle.returns.specs.View.{down, fetching, returning, up, idle, storing, confirming, ViewNode, ViewMessage}
+use Rattle.returns.specs.View.{storeTo, storedBy, confirmTo, confirmedBy, fetchFrom, tableFrom, View, live, put, Sent, Each}
 use Rattle.returns.specs.Merge.{Merged}
 
 -- w begins to store: nothing is counted yet
@@ -77,8 +80,8 @@ pub record Finishes (v : ViewNode) (n : Note) : Type 0 where
   pub when-up : v .phase ≡ up → n ≡ settles (v .item)
   pub when-returning : v .phase ≡ returning → n ≡ returns (v .item)
 
--- The messages in the view of x that node p may send when it becomes v: what they say is true of v, or of p before, and an answer answers a
--- request that was sent.
+-- The messages in the view of x that node p may send when it becomes v: what they say is true of v, or of p before, and
+-- Confirmed and Table answer a request that was sent.
 abbrev pub MaySend : ℕ → View → ℕ → ViewNode → ViewMessage → Type 0
 MaySend x g p v (storeTo q i a k) = k ≡ v .item
 MaySend x g p v (storedBy q i o a k) = (q ≡ p) × (v .phase ≡ up) × (i ≡ v .incarnation) × (k ≡ v .item)
@@ -118,16 +121,17 @@ module _ (f x : ℕ) where
         → v .stage ≡ confirming → v .counted ≡ replaced ((g .node x) .counted) q true → v .asked ≡ (g .node x) .asked
         → v .askedUnder ≡ (g .node x) .askedUnder → Change g quiet x v
     -- the f-th Confirmed: x is done
-    atLastConfirmed : (q : ℕ) (n : Note) (v : ViewNode) → CountsConfirmed x g q → f ≤ count (replaced ((g .node x) .counted) q true) (groupSize f)
-        → SameWrite (g .node x) v → v .phase ≡ up → v .stage ≡ idle → Finishes (g .node x) n → Change g n x v
+    atLastConfirmed : (q : ℕ) (n : Note) (v : ViewNode) → CountsConfirmed x g q
+        → f ≤ count (replaced ((g .node x) .counted) q true) (groupSize f) → SameWrite (g .node x) v → v .phase ≡ up → v .stage ≡ idle → Finishes (g .node x) n → Change g n x v
     -- a Table counted by any node, and still fewer than f + 1
     atTable : (p q : ℕ) (r : Item) (v : ViewNode) → CountsTable g p q r v → v .phase ≡ fetching → v .stage ≡ idle
         → v .counted ≡ replaced ((g .node p) .counted) q true → Merged (g .node p) r (v .item) (v .marked) → Change g quiet p v
     -- the (f + 1)-th Table, and row x is not marked: the node is Returning; of x it is used that it begins to store
-    atLastTable : (p q : ℕ) (r : Item) (v : ViewNode) → CountsTable g p q r v → suc f ≤ count (replaced ((g .node p) .counted) q true) (groupSize f)
-        → v .phase ≡ returning → Merged (g .node p) r (v .item) false → (p ≡ x → BeginsStoring (g .node p) v) → Change g quiet p v
-    -- Any call at a live node other than x that leaves row x alone: its own write goes on, or is finished, or it takes a
-    -- Store of a third node.
+    atLastTable : (p q : ℕ) (r : Item) (v : ViewNode) → CountsTable g p q r v
+        → suc f ≤ count (replaced ((g .node p) .counted) q true) (groupSize f) → v .phase ≡ returning → Merged (g .node p) r (v .item) false
+        → (p ≡ x → BeginsStoring (g .node p) v) → Change g quiet p v
+    -- Any call at a live node other than x that leaves row x alone: its own write begins, goes on or is finished, or it takes
+    -- a Store of a third node. What x's view keeps of its write is not looked at.
     elsewhere : (p : ℕ) (v : ViewNode) → p ≢ x → StaysLive (g .node p) v → v .item ≡ (g .node p) .item → Change g quiet p v
     -- Any call that changes nothing of a node that the view shows: Fetch sent again, a Confirm or a Fetch answered, a Store
     -- of another writer taken by x.

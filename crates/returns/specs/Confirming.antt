@@ -11,7 +11,9 @@ use Rattle.returns.specs.Majority.{bit, count, groupSize, count-replaced
 use Rattle.returns.specs.Rank.{Above, above-refl}
 use Rattle.returns.specs.History.{Note, History, afterNote}
 use Rattle.returns.specs.View.{down, up, confirming, ViewNode, ViewMessage, confirmedBy, View, live, put, Sent, Each, clash}
-use Rattle.returns.specs.Change.{Present, CountsStored, CountsConfirmed, SameWrite, MaySend, Change, atWrite, atRetry, atCrash, atStart, atStore, atStored, atLastStored, atConfirmed, atLastConfirmed, atTable, atLastTable, elsewhere, unchanged}
+use Rattle.returns.specs.Change.{Present, CountsStored, CountsConfirmed, SameWrite, MaySend, Change}
+use Rattle.returns.specs.Change.{atWrite, atRetry, atCrash, atStart, atStore, atStored, atLastStored}
+use Rattle.returns.specs.Change.{atConfirmed, atLastConfirmed, atTable, atLastTable, elsewhere, unchanged}
 use Rattle.returns.specs.Quorum.{Holds, KeepsHeld, holds-live, holds-down, live-not-fetching}
 use Rattle.returns.specs.Invariant.{Answered, HasConfirmed, MayConfirm, Asked, Quorum, Invariant}
 use Rattle.returns.specs.Turns.{Forward, storing-live}
@@ -36,7 +38,8 @@ module _ (f x : ℕ) (h : History) (g : View) (I : Invariant f x h g) where
 
   -- nothing that happens elsewhere undoes it
   asked-kept : (p : ℕ) (v : ViewNode) (ms : List ViewMessage) → Each (MaySend x g p v) ms
-      → ((q : ℕ) → Forward (g .node q) (replaced (g .node) p v q)) → KeepsHeld f g (put g p v ms) → (w : ViewNode) → Asked f x g w → Asked f x (put g p v ms) w
+      → ((q : ℕ) → Forward (g .node q) (replaced (g .node) p v q)) → KeepsHeld f g (put g p v ms)
+      → (w : ViewNode) → Asked f x g w → Asked f x (put g p v ms) w
   asked-kept p v ms send fw keep w A = record {
     others = λ q e. ((A .others q e) .0, omega (arith, (A .others q e) .1, (fw q) .no-earlier));
     have-confirmed = λ q e. ((A .have-confirmed q e) .0, Memᴰ·append-right ms ((A .have-confirmed q e) .1));

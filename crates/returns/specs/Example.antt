@@ -14,9 +14,11 @@ use Rattle.returns.specs.Replace.{replaced}
 use Rattle.returns.specs.Majority.{count}
 use Rattle.returns.specs.Rank.{Above, above-refl, above-ranks}
 use Rattle.returns.specs.History.{Note, quiet, begins, settles, returns, atSetUp, Kept}
-use Rattle.returns.specs.View.{ViewPhase, down, fetching, returning, up, ViewStage, idle, storing, confirming, ViewNode, ViewMessage, storeTo, storedBy, confirmTo, confirmedBy, fetchFrom, tableFrom, View, put, Sent, Each, each-nil, each-cons, clash}
+use Rattle.returns.specs.View.{ViewPhase, down, fetching, returning, up, ViewStage, idle, storing, confirming, ViewNode, ViewMessage}
+use Rattle.returns.specs.View.{storeTo, storedBy, confirmTo, confirmedBy, fetchFrom, tableFrom, View, put, Sent, Each, each-nil, each-cons, clash}
 use Rattle.returns.specs.Merge.{merged-first, merged-lower}
-use Rattle.returns.specs.Change.{SameWrite, StaysLive, Present, CountsStored, CountsConfirmed, Finishes, atWrite, atCrash, atStart, atStore, atLastStored, atLastConfirmed, atTable, atLastTable, unchanged, did}
+use Rattle.returns.specs.Change.{BeginsStoring, SameWrite, StaysLive, Present, CountsStored, CountsConfirmed, Finishes}
+use Rattle.returns.specs.Change.{atWrite, atCrash, atStart, atStore, atLastStored, atLastConfirmed, atTable, atLastTable, unchanged, did}
 use Rattle.returns.specs.Returns.{SetUp, Run, end, then, returns-kept}
 
 -- index 1, tag 65
@@ -93,8 +95,15 @@ stays i e e′ = record { same-incarnation = i; was-live = rw e; is-live = rw e�
 same-write : {v w : ViewNode} → w .incarnation ≡ v .incarnation → w .attempt ≡ v .attempt → w .item ≡ v .item → SameWrite v w
 same-write i a k = record { same-incarnation = i; same-attempt = a; same-item = k }
 
+present-now : {v : ViewNode} {i : ℕ} → i ≡ v .incarnation → 1 ≡ v .attempt → written ≡ v .item → Present v i 1 written
+present-now i a k = record { present-incarnation = i; present-attempt = a; present-item = k }
+
+begins-storing : {v w : ViewNode} → w .incarnation ≡ v .incarnation → w .stage ≡ storing → ((q : ℕ) → w .counted q ≡ false) → BeginsStoring v w
+begins-storing i s c = record { same-incarnation = i; now-storing = s; none-counted = c }
+
 -- node 0 counts the answers of node 1 to its first attempt under incarnation i
-counts-stored : (g : View) (i : ℕ) → Sent (storedBy 1 1 i 1 written) g → (g .node 0) .stage ≡ storing → Present (g .node 0) i 1 written → CountsStored 0 g 1 1
+counts-stored : (g : View) (i : ℕ) → Sent (storedBy 1 1 i 1 written) g → (g .node 0) .stage ≡ storing
+    → Present (g .node 0) i 1 written → CountsStored 0 g 1 1
 counts-stored g i m s p = record { other = i; attempt = 1; item = written; was-sent = m; not-own = one-not-zero; in-storing = s; present = p }
 
 counts-confirmed : (g : View) (i : ℕ) → Sent (confirmedBy 1 1 i 1 written) g → (g .node 0) .stage ≡ confirming → Present (g .node 0) i 1 written
@@ -125,14 +134,14 @@ round g i phase k n l e₀ e₁ m a d r =
     (one _ (storedBy 1 1 i 1 written) (refl, refl, refl, refl)))
     (then {g = afterStore g i} {g′ = afterStored g i phase}
     (did (atLastStored 1 1 (confirmingNode i phase)
-    (counts-stored (afterStore g i) i (List·Memᴰ·head refl) (rw e₀) (record { present-incarnation = rw e₀; present-attempt = rw e₀; present-item = rw e₀ }))
+    (counts-stored (afterStore g i) i (List·Memᴰ·head refl) (rw e₀) (present-now (rw e₀) (rw e₀) (rw e₀)))
     (same-write (rw e₀) (rw e₀) (rw e₀)) (rw e₀) refl (rw e₀) (rw e₀) (λ q. refl))
     (one _ (confirmTo 1 i 1 1 written) (refl, refl, refl, refl)))
     (then {g = afterStored g i phase} {g′ = afterConfirm g i phase}
     (did (unchanged 1 (quietNode 1 up written) refl) (one _ (confirmedBy 1 1 i 1 written) (refl, refl, 1, List·Memᴰ·head refl)))
     (then {g = afterConfirm g i phase} {g′ = afterConfirmed g i phase}
     (did (atLastConfirmed 1 n (idleNode i)
-    (counts-confirmed (afterConfirm g i phase) i (List·Memᴰ·head refl) refl (record { present-incarnation = refl; present-attempt = refl; present-item = refl }) refl refl)
+    (counts-confirmed (afterConfirm g i phase) i (List·Memᴰ·head refl) refl (present-now refl refl refl) refl refl)
     (lit≤ tt) (same-write refl refl refl) refl refl (record { when-up = d .when-up; when-returning = d .when-returning }))
     (each-nil _))
     r)))
@@ -145,7 +154,7 @@ drillNotes =
 drill : Run 1 0 setUpView drillNotes
 unfolding setUpView setUpNode storingNode confirmingNode idleNode fetchingNode count drillNotes ranksBelow indexBelow
 drill =
-    then (did (atWrite (record { 0 = 65 }) (storingNode 1 up) refl refl (record { same-incarnation = refl; now-storing = refl; none-counted = λ q. refl }) refl (lit< tt) refl)
+    then (did (atWrite (record { 0 = 65 }) (storingNode 1 up) refl refl (begins-storing refl refl (λ q. refl)) refl (lit< tt) refl)
     (both _ (storeTo 1 1 1 written) (storeTo 2 1 1 written) refl refl))
     (round _ 1 up zeroItem (settles written) _ refl refl (List·Memᴰ·head refl) written-above
     (record { when-up = λ e. refl; when-returning = λ e. absurd (up-not-returning e) })
@@ -160,7 +169,7 @@ drill =
     (each-nil _))
     (then (did (atLastTable 0 2 zeroItem (storingNode 2 returning)
     (record { other = 2; was-sent = List·Memᴰ·head refl; present-incarnation = refl; was-fetching = refl; same-incarnation = refl })
-    (lit≤ tt) refl (merged-lower _ zeroItem refl) (λ e. record { same-incarnation = refl; now-storing = refl; none-counted = λ q. refl }))
+    (lit≤ tt) refl (merged-lower _ zeroItem refl) (λ e. begins-storing refl refl (λ q. refl)))
     (both _ (storeTo 1 2 1 written) (storeTo 2 2 1 written) refl refl))
     (round _ 2 returning written (returns written) _ refl refl (List·Memᴰ·head refl) (above-refl written)
     (record { when-up = λ e. absurd (returning-not-up e); when-returning = λ e. refl })

@@ -14,7 +14,9 @@ use Rattle.returns.specs.Majority.{count, groupSize}
 use Rattle.returns.specs.Rank.{Above, above-higher, above-index, above-cases, oneAbove}
 use Rattle.returns.specs.History.{Note, quiet, begins, settles, returns, History, afterNote, May}
 use Rattle.returns.specs.View.{ViewPhase, down, fetching, returning, up, idle, ViewNode, View, live, clash}
-use Rattle.returns.specs.Change.{CountsConfirmed, Finishes, Change, atWrite, atRetry, atCrash, atStart, atStore, atStored, atLastStored, atConfirmed, atLastConfirmed, atTable, atLastTable, elsewhere, unchanged}
+use Rattle.returns.specs.Change.{CountsConfirmed, Finishes, Change}
+use Rattle.returns.specs.Change.{atWrite, atRetry, atCrash, atStart, atStore, atStored, atLastStored}
+use Rattle.returns.specs.Change.{atConfirmed, atLastConfirmed, atTable, atLastTable, elsewhere, unchanged}
 use Rattle.returns.specs.Invariant.{Known, Invariant}
 use Rattle.returns.specs.Turns.{confirming-live}
 
@@ -124,7 +126,8 @@ module _ (f x : ℕ) (h : History) (g : View) (I : Invariant f x h g) where
   item-change n p v (atStored q i _ c w u s e e′) = rw (w .same-item) (I .items x)
   item-change n p v (atLastStored q i _ c w u s e e′ y) = rw (w .same-item) (I .items x)
   item-change n p v (atConfirmed q _ c w u s e e′ y) = rw (w .same-item) (I .items x)
-  item-change n p v (atLastConfirmed q _ _ c m w u s r) = rw (w .same-item) (known-next n x (tellsFinished q n c m r) ((g .node x) .item) (I .items x))
+  item-change n p v (atLastConfirmed q _ _ c m w u s r) =
+      rw (w .same-item) (known-next n x (tellsFinished q n c m r) ((g .node x) .item) (I .items x))
   item-change n p v (atTable _ q r _ t u s c m) =
       known-merged h (g .node p) r (v .item) (m .from) (I .items p) ((I .messages _ (t .was-sent)) .1)
   item-change n p v (atLastTable _ q r _ t c u m b) =

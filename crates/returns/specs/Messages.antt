@@ -8,7 +8,8 @@ use Rattle.item.specs.declared.Item.{Item}
 use Rattle.returns.specs.Replace.{replaced, replaced-same}
 use Rattle.returns.specs.Rank.{above-refl}
 use Rattle.returns.specs.History.{History}
-use Rattle.returns.specs.View.{confirming, ViewNode, ViewMessage, storeTo, storedBy, confirmTo, confirmedBy, fetchFrom, tableFrom, View, put, Each, each-append, clash}
+use Rattle.returns.specs.View.{confirming, ViewNode, ViewMessage}
+use Rattle.returns.specs.View.{storeTo, storedBy, confirmTo, confirmedBy, fetchFrom, tableFrom, View, put, Each, each-append, clash}
 use Rattle.returns.specs.Change.{MaySend}
 use Rattle.returns.specs.Quorum.{live-not-fetching}
 use Rattle.returns.specs.Invariant.{Known, Answered, Past, Own, MessageHolds, Invariant, writing-live}

@@ -8,7 +8,9 @@ use Rattle.returns.specs.Replace.{replaced, replaced-each, replaced-both
 use Rattle.returns.specs.Rank.{oneAbove}
 use Rattle.returns.specs.History.{Note, History, afterNote}
 use Rattle.returns.specs.View.{idle, storing, ViewNode, View, live, clash}
-use Rattle.returns.specs.Change.{CountsStored, BeginsStoring, Change, atWrite, atRetry, atCrash, atStart, atStore, atStored, atLastStored, atConfirmed, atLastConfirmed, atTable, atLastTable, elsewhere, unchanged}
+use Rattle.returns.specs.Change.{CountsStored, BeginsStoring, Change}
+use Rattle.returns.specs.Change.{atWrite, atRetry, atCrash, atStart, atStore, atStored, atLastStored}
+use Rattle.returns.specs.Change.{atConfirmed, atLastConfirmed, atTable, atLastTable, elsewhere, unchanged}
 use Rattle.returns.specs.Quorum.{rebuilt-above}
 use Rattle.returns.specs.Invariant.{Own, Answered, Polled, Quorum, Invariant}
 use Rattle.returns.specs.Turns.{Forward}

@@ -1,14 +1,14 @@
 -- The theorem: from set-up on, whatever calls are made, no note of x is one that it may not have. The invariant holds of the
 -- group as set up and is kept by every call, and where it holds the next note is allowed.
-use Prim.Native.Nat.{ℕ, suc, _≤_, _<_}
+use Prim.Native.Nat.{ℕ, _<_}
 use native.Mathlib.Omega.{arith}
 use mathlib.Core.Path.{_≡_, refl}
-use mathlib.Core.Bool.{Bool, true}
+use mathlib.Core.Bool.{true}
 use mathlib.Core.List.{List, [], _∷_}
 use Rattle.item.specs.declared.Item.{Item}
 use Rattle.item.specs.Item.{zeroItem}
 use Rattle.returns.specs.Replace.{replaced}
-use Rattle.returns.specs.Majority.{count, groupSize, count-all}
+use Rattle.returns.specs.Majority.{groupSize, count-all}
 use Rattle.returns.specs.Rank.{above-refl}
 use Rattle.returns.specs.History.{Note, History, atSetUp, afterNote, May, Kept}
 use Rattle.returns.specs.View.{fetching, idle, ViewNode, ViewMessage, View, put, Each, each-nil, clash}
@@ -36,7 +36,6 @@ module _ (f x : ℕ) where
 module _ (f x : ℕ) (below : x < groupSize f) where
   module _ (h : History) (g : View) (I : Invariant f x h g) (n : Note) (p : ℕ) (v : ViewNode) (ms : List ViewMessage)
       (c : Change f x g n p v) (send : Each (MaySend x g p v) ms) where
-
     -- no change undoes what f + 1 nodes hold
     held-change : KeepsHeld f g (put g p v ms)
     held-change A s many = held-next A s g p f many x v ms (λ q o r m. (I .messages _ m) .0) (turn-of f x h g I n p v c) send

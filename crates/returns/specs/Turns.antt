@@ -2,7 +2,7 @@
 -- answered, and what x has left behind stays behind.
 use Prim.Native.Nat.{ℕ, _≤_, _<_}
 use native.Mathlib.Omega.{arith}
-use mathlib.Core.Path.{_≡_, refl, sym, _∙_}
+use mathlib.Core.Path.{_≡_, refl, _∙_}
 use mathlib.Core.Logic.{_⊎_, inl, inr}
 use mathlib.Core.Bool.{true}
 use Rattle.item.specs.declared.Item.{Item}
@@ -10,7 +10,9 @@ use Rattle.returns.specs.Replace.{replaced, replaced-each}
 use Rattle.returns.specs.Rank.{Above, above-refl, above-trans, above-higher, oneAbove}
 use Rattle.returns.specs.History.{History, Note}
 use Rattle.returns.specs.View.{down, fetching, up, idle, storing, confirming, ViewNode, View, live, clash}
-use Rattle.returns.specs.Change.{SameWrite, StaysLive, Change, atWrite, atRetry, atCrash, atStart, atStore, atStored, atLastStored, atConfirmed, atLastConfirmed, atTable, atLastTable, elsewhere, unchanged}
+use Rattle.returns.specs.Change.{SameWrite, StaysLive, Change}
+use Rattle.returns.specs.Change.{atWrite, atRetry, atCrash, atStart, atStore, atStored, atLastStored}
+use Rattle.returns.specs.Change.{atConfirmed, atLastConfirmed, atTable, atLastTable, elsewhere, unchanged}
 use Rattle.returns.specs.Quorum.{Turn, livesOn, goesDown, restarts, countsTable, rebuilds, stays, live-not-fetching}
 use Rattle.returns.specs.Invariant.{Answered, Past, Invariant, writing-live}
 
@@ -145,11 +147,14 @@ module _ (f x : ℕ) (h : History) (g : View) (I : Invariant f x h g) where
   past-change n p v (atStart _ _ i u s k c) z = λ j a b. past-earlier v j a (omega (arith, b .not-later))
   past-change n p v (atStore _ i a k _ d m r l e) z = absurd (d z)
   past-change n p v (atStored q i _ c w u s e e′) z =
-      let l : live ((g .node x) .phase) ≡ true = storing-live f x h g I (c .in-storing) in past-writes (g .node x) v w l (rw u l) (λ y. c .in-storing)
+      let l : live ((g .node x) .phase) ≡ true = storing-live f x h g I (c .in-storing) in
+      past-writes (g .node x) v w l (rw u l) (λ y. c .in-storing)
   past-change n p v (atLastStored q i _ c w u s e e′ y) z =
-      let l : live ((g .node x) .phase) ≡ true = storing-live f x h g I (c .in-storing) in past-writes (g .node x) v w l (rw u l) (λ y. c .in-storing)
+      let l : live ((g .node x) .phase) ≡ true = storing-live f x h g I (c .in-storing) in
+      past-writes (g .node x) v w l (rw u l) (λ y. c .in-storing)
   past-change n p v (atConfirmed q _ c w u s e e′ y) z =
-      let l : live ((g .node x) .phase) ≡ true = confirming-live f x h g I (c .in-confirming) in past-writes (g .node x) v w l (rw u l) (λ y. clash (cc))
+      let l : live ((g .node x) .phase) ≡ true = confirming-live f x h g I (c .in-confirming) in
+      past-writes (g .node x) v w l (rw u l) (λ y. clash (cc))
   past-change n p v (atLastConfirmed q _ _ c m w u s r) z =
       past-writes (g .node x) v w (confirming-live f x h g I (c .in-confirming)) (rw u) (λ y. clash (cc))
   past-change n p v (atTable _ q r _ t u s c m) z = past-fetching (g .node p) v (t .was-fetching) (t .same-incarnation)

@@ -1,7 +1,8 @@
 -- The group as one fixed node x sees it, x being the writer whose items the claim is about. Of each node the view keeps
 -- what bears on row x, the row that holds x's item; of the messages those that bear on it. Counters are plain numbers. The
 -- view of a real node is a projection of its fields, the same for x and for every other node: attempt, stage, counted and
--- asked are kept of all nodes, though of a node other than x only `counted`, and only while it is Fetching, is ever used.
+-- asked are kept of all nodes, though of a node other than x only `counted`, and only while it is Fetching, is ever used. So
+-- no lemma that ties a definition to the view need tell x from another node to say what the view is.
 use Prim.Native.Nat.{ℕ}
 use native.Mathlib.Omega.{arith}
 use mathlib.Core.Path.{_≡_, sym, subst}
