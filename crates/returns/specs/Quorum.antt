@@ -12,7 +12,7 @@ use Rattle.item.specs.declared.Item.{Item}
 use Rattle.returns.specs.Replace.{replaced, replaced-each}
 use Rattle.returns.specs.Majority.{count, groupSize, Both, majorities-meet}
 use Rattle.returns.specs.Rank.{Above, above-trans, Covers, above-covers}
-use Rattle.returns.specs.View.{down, fetching, returning, ViewNode, ViewMessage, tableFrom, View, live, put, Sent, Each, clash}
+use Rattle.returns.specs.View.{down, fetching, ViewNode, ViewMessage, tableFrom, View, live, put, Sent, Each, clash}
 use Rattle.returns.specs.Merge.{Merged}
 use Rattle.returns.specs.Change.{StaysLive, CountsTable, MaySend}
 
@@ -53,7 +53,7 @@ pub data Turn (f : ℕ) (g : View) (p : ℕ) (w : ViewNode) : Type 0 where
   countsTable : (q : ℕ) (r : Item) → CountsTable g p q r w → w .phase ≡ fetching → w .counted ≡ replaced ((g .node p) .counted) q true
       → Merged (g .node p) r (w .item) (w .marked) → Turn f g p w
   rebuilds : (q : ℕ) (r : Item) → CountsTable g p q r w → suc f ≤ count (replaced ((g .node p) .counted) q true) (groupSize f)
-      → w .phase ≡ returning → Merged (g .node p) r (w .item) false → Turn f g p w
+      → live (w .phase) ≡ true → Merged (g .node p) r (w .item) false → Turn f g p w
   stays : w ≡ g .node p → Turn f g p w
 
 module _ (A : ℕ → Bool) (s : Item) (g : View) (p : ℕ) where
@@ -87,7 +87,7 @@ module _ (A : ℕ → Bool) (s : Item) (g : View) (p : ℕ) where
     holds-turn past w (countsTable q r T d c M) h = holds-fetching A s (g .sent) p w d
         (λ k a b. table-covers q r w (w .item) (w .marked) T M h k a (rw c at b))
         (λ k i a m. h .when-coming (T .was-fetching) k i a (rw (T .same-incarnation) at m))
-    holds-turn past w (rebuilds q r T c d M) h = holds-live A s (g .sent) p w (λ e. clash (cc)) (rebuilt-above q r w T c M h)
+    holds-turn past w (rebuilds q r T c d M) h = holds-live A s (g .sent) p w (live-not-fetching w d) (rebuilt-above q r w T c M h)
     holds-turn past w (stays e) h = rw e h
 
     -- A Table that is sent is that of a live node, so if that node is in A, it is above s.

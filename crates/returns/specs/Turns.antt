@@ -44,7 +44,7 @@ module _ (f x : ℕ) (h : History) (g : View) (I : Invariant f x h g) where
       livesOn (record { same-incarnation = w .same-incarnation; was-live = confirming-live (c .in-confirming); is-live = rw u; stays-up = λ z. u })
       (rw (w .same-item) (above-refl ((g .node x) .item)))
   turn-of n p v (atTable _ q r _ t u s c m) = countsTable q r t u c m
-  turn-of n p v (atLastTable _ q r _ t c u m b) = rebuilds q r t c u m
+  turn-of n p v (atLastTable _ q r _ t c u m b) = rebuilds q r t c (rw u) m
   turn-of n p v (elsewhere _ _ d l k) = livesOn l (rw k (above-refl ((g .node p) .item)))
   turn-of n p v (unchanged _ _ e) = stays e
 
