@@ -16,9 +16,9 @@ use Rattle.returns.specs.Change.{atWrite, atRetry, atCrash, atStart, atS
 use Rattle.returns.specs.Change.{atConfirmed, atLastConfirmed, atTable, atLastTable, elsewhere, unchanged}
 use Rattle.returns.specs.Quorum.{Holds, KeepsHeld, holds-live, holds-down, live-not-fetching}
 use Rattle.returns.specs.Invariant.{Answered, HasConfirmed, MayConfirm, Asked, Quorum, Invariant}
-use Rattle.returns.specs.Turns.{Forward, storing-live}
+use Rattle.returns.specs.NodeSteps.{Forward, storing-live}
 use Rattle.returns.specs.Items.{Tells, tellsNothing, tellsBegun, tellsFinished, finished-is}
-use Rattle.returns.specs.Own.{of-x, polled-more}
+use Rattle.returns.specs.Own.{of-x, answered-more}
 
 -- a node that answered, and has not restarted since, holds the item
 answered-holds : (A : ℕ → Bool) (s : Item) (ms : List ViewMessage) (p : ℕ) (v : ViewNode)
@@ -68,7 +68,7 @@ module _ (f x : ℕ) (h : History) (g : View) (I : Invariant f x h g) where
       live-after = rw u (storing-live f x h g I (c .in-storing))
 
       answered : (k : ℕ) → v .asked k ≡ true → (k ≢ x) × Answered (v .askedUnder k) (v .item) (g .node k)
-      answered k e = rw (eu, w .same-item) (polled-more f x h g I q i c k (rw ea at e))
+      answered k e = rw (eu, w .same-item) (answered-more f x h g I q i c k (rw ea at e))
 
       present : (k : ℕ) → k ≢ x → MayConfirm (put g x v ms) v k → (g .node k) .incarnation ≡ v .askedUnder k
       present k d (inl e) = rw (replaced-other (g .node) x v k d) at e

@@ -49,8 +49,8 @@ MessageHolds x h g (fetchFrom q to i) = i ≤ (g .node q) .incarnation
 MessageHolds x h g (tableFrom q to o r) = (o ≤ (g .node to) .incarnation) × Known h r
 
 -- while x is Storing, each peer that it has counted answered for x's item
-abbrev pub Polled : ℕ → View → ViewNode → Type 0
-Polled x g v = (q : ℕ) → v .counted q ≡ true → (q ≢ x) × Answered (v .countedUnder q) (v .item) (g .node q)
+abbrev pub CountedAnswered : ℕ → View → ViewNode → Type 0
+CountedAnswered x g v = (q : ℕ) → v .counted q ≡ true → (q ≢ x) × Answered (v .countedUnder q) (v .item) (g .node q)
 
 -- q has confirmed the present attempt of v, under the incarnation in which it stored
 abbrev pub HasConfirmed : View → ViewNode → ℕ → Type 0
@@ -79,7 +79,7 @@ pub record Invariant (f x : ℕ) (h : History) (g : View) : Type 0 where
   pub items : (p : ℕ) → Known h ((g .node p) .item)
   pub messages : Each (MessageHolds x h g) (g .sent)
   pub own : Own h (g .node x)
-  pub polled : (g .node x) .stage ≡ storing → Polled x g (g .node x)
+  pub answered : (g .node x) .stage ≡ storing → CountedAnswered x g (g .node x)
   pub asked : (g .node x) .stage ≡ confirming → Asked f x g (g .node x)
   pub quorum : Quorum f x (h .last) g
 

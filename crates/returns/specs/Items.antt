@@ -18,7 +18,7 @@ use Rattle.returns.specs.Change.{CountsConfirmed, Finishes, Change}
 use Rattle.returns.specs.Change.{atWrite, atRetry, atCrash, atStart, atStore, atStored, atLastStored}
 use Rattle.returns.specs.Change.{atConfirmed, atLastConfirmed, atTable, atLastTable, elsewhere, unchanged}
 use Rattle.returns.specs.Invariant.{Known, Invariant}
-use Rattle.returns.specs.Turns.{confirming-live}
+use Rattle.returns.specs.NodeSteps.{confirming-live}
 
 -- the three kinds of note, with what is known of the change that tells it
 pub data Tells (f x : ℕ) (g : View) : Note → ℕ → Type 0 where

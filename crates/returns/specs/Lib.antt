@@ -7,7 +7,7 @@ pub mod Merge
 pub mod Change
 pub mod Quorum
 pub mod Invariant
-pub mod Turns
+pub mod NodeSteps
 pub mod Items
 pub mod Own
 pub mod Confirming

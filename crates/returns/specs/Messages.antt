@@ -13,7 +13,7 @@ use Rattle.returns.specs.View.{storeTo, storedBy, confirmTo, confirmedBy
 use Rattle.returns.specs.Change.{MaySend}
 use Rattle.returns.specs.Quorum.{live-not-fetching}
 use Rattle.returns.specs.Invariant.{Known, Answered, Past, Own, MessageHolds, Invariant, writing-live}
-use Rattle.returns.specs.Turns.{Forward}
+use Rattle.returns.specs.NodeSteps.{Forward}
 
 -- what holds of v holds of node q after p has become v, if q is p
 at-changed : (P : ViewNode → Type 0) (node : ℕ → ViewNode) (p : ℕ) (v : ViewNode) (q : ℕ) → q ≡ p → P v → P (replaced node p v q)

@@ -12,8 +12,8 @@ use Rattle.returns.specs.Change.{CountsStored, BeginsStoring, Change}
 use Rattle.returns.specs.Change.{atWrite, atRetry, atCrash, atStart, atStore, atStored, atLastStored}
 use Rattle.returns.specs.Change.{atConfirmed, atLastConfirmed, atTable, atLastTable, elsewhere, unchanged}
 use Rattle.returns.specs.Quorum.{rebuilt-above}
-use Rattle.returns.specs.Invariant.{Own, Answered, Polled, Quorum, Invariant}
-use Rattle.returns.specs.Turns.{Forward}
+use Rattle.returns.specs.Invariant.{Own, Answered, CountedAnswered, Quorum, Invariant}
+use Rattle.returns.specs.NodeSteps.{Forward}
 use Rattle.returns.specs.Items.{tells, others-quiet, finished-is}
 
 -- what holds of the node of x holds of the node of p, if p is x
@@ -76,36 +76,36 @@ module _ (f x : ℕ) (h : History) (g : View) (I : Invariant f x h g) where
       (λ q d e. rw (others-quiet f x g h n p (tells f x g n p v c) (λ z. d (e ∙ sym z))) (of-x x g (Own h) q e (I .own))) x refl
 
   -- one more Stored is counted, whether it is the f-th or not
-  pub polled-more : (q i : ℕ) → CountsStored x g q i → (k : ℕ) → replaced ((g .node x) .counted) q true k ≡ true
+  pub answered-more : (q i : ℕ) → CountsStored x g q i → (k : ℕ) → replaced ((g .node x) .counted) q true k ≡ true
       → (k ≢ x) × Answered (replaced ((g .node x) .countedUnder) q i k) ((g .node x) .item) (g .node k)
-  polled-more q i c = replaced-both (λ k b j. b ≡ true → (k ≢ x) × Answered j ((g .node x) .item) (g .node k))
+  answered-more q i c = replaced-both (λ k b j. b ≡ true → (k ≢ x) × Answered j ((g .node x) .item) (g .node k))
       ((g .node x) .counted) ((g .node x) .countedUnder) q true i
       (λ e. (c .not-own, rw ((c .present) .present-item) at (I .messages _ (c .was-sent))))
-      (λ k d. I .polled (c .in-storing) k)
+      (λ k d. I .answered (c .in-storing) k)
 
-  none-polled : (v : ViewNode) → BeginsStoring (g .node x) v → Polled x g v
-  none-polled v b q m = absurd (false≢true (sym (b .none-counted q) ∙ m))
+  none-answered : (v : ViewNode) → BeginsStoring (g .node x) v → CountedAnswered x g v
+  none-answered v b q m = absurd (false≢true (sym (b .none-counted q) ∙ m))
 
-  polled-change : (n : Note) (p : ℕ) (v : ViewNode) → Change f x g n p v → p ≡ x → v .stage ≡ storing → Polled x g v
-  polled-change n p v (atWrite t _ e s b u a k) z st = none-polled v b
-  polled-change n p v (atRetry _ d b u a k) z st = none-polled v b
-  polled-change n p v (atCrash _ _ i u s k) z st = clash (cc)
-  polled-change n p v (atStart _ _ i u s k c) z st = clash (cc)
-  polled-change n p v (atStore _ i a k _ d m r l e) z st = absurd (d z)
-  polled-change n p v (atStored q i _ c w u s e e′) z st = λ k m. rw (e′, w .same-item) (polled-more q i c k (rw e at m))
-  polled-change n p v (atLastStored q i _ c w u s e e′ y) z st = clash (cc)
-  polled-change n p v (atConfirmed q _ c w u s e e′ y) z st = clash (cc)
-  polled-change n p v (atLastConfirmed q _ _ c m w u s r) z st = clash (cc)
-  polled-change n p v (atTable _ q r _ t u s c m) z st = clash (cc)
-  polled-change n p v (atLastTable _ q r _ t c u m b) z st = λ k j. absurd (false≢true (sym ((b z) .none-counted k) ∙ j))
-  polled-change n p v (elsewhere _ _ d l k) z st = absurd (d z)
-  polled-change n p v (unchanged _ _ e) z st = rw e (of-x x g (λ w. w .stage ≡ storing → Polled x g w) p z (I .polled) (rw e at st))
+  answered-change : (n : Note) (p : ℕ) (v : ViewNode) → Change f x g n p v → p ≡ x → v .stage ≡ storing → CountedAnswered x g v
+  answered-change n p v (atWrite t _ e s b u a k) z st = none-answered v b
+  answered-change n p v (atRetry _ d b u a k) z st = none-answered v b
+  answered-change n p v (atCrash _ _ i u s k) z st = clash (cc)
+  answered-change n p v (atStart _ _ i u s k c) z st = clash (cc)
+  answered-change n p v (atStore _ i a k _ d m r l e) z st = absurd (d z)
+  answered-change n p v (atStored q i _ c w u s e e′) z st = λ k m. rw (e′, w .same-item) (answered-more q i c k (rw e at m))
+  answered-change n p v (atLastStored q i _ c w u s e e′ y) z st = clash (cc)
+  answered-change n p v (atConfirmed q _ c w u s e e′ y) z st = clash (cc)
+  answered-change n p v (atLastConfirmed q _ _ c m w u s r) z st = clash (cc)
+  answered-change n p v (atTable _ q r _ t u s c m) z st = clash (cc)
+  answered-change n p v (atLastTable _ q r _ t c u m b) z st = λ k j. absurd (false≢true (sym ((b z) .none-counted k) ∙ j))
+  answered-change n p v (elsewhere _ _ d l k) z st = absurd (d z)
+  answered-change n p v (unchanged _ _ e) z st = rw e (of-x x g (λ w. w .stage ≡ storing → CountedAnswered x g w) p z (I .answered) (rw e at st))
 
-  polled-forward : (g′ : View) (v : ViewNode) → ((q : ℕ) → Forward (g .node q) (g′ .node q)) → Polled x g v → Polled x g′ v
-  polled-forward g′ v fw P q m = ((P q m) .0, (fw q) .still-answered (v .countedUnder q) (v .item) ((P q m) .1))
+  answered-forward : (g′ : View) (v : ViewNode) → ((q : ℕ) → Forward (g .node q) (g′ .node q)) → CountedAnswered x g v → CountedAnswered x g′ v
+  answered-forward g′ v fw P q m = ((P q m) .0, (fw q) .still-answered (v .countedUnder q) (v .item) ((P q m) .1))
 
-  pub polled-next : (g′ : View) (n : Note) (p : ℕ) (v : ViewNode) → Change f x g n p v → ((q : ℕ) → Forward (g .node q) (g′ .node q))
-      → (replaced (g .node) p v x) .stage ≡ storing → Polled x g′ (replaced (g .node) p v x)
-  polled-next g′ n p v c fw = replaced-each (λ q w. q ≡ x → w .stage ≡ storing → Polled x g′ w) (g .node) p v
-      (λ z st. polled-forward g′ v fw (polled-change n p v c z st))
-      (λ q d z. of-x x g (λ w. w .stage ≡ storing → Polled x g′ w) q z (λ st. polled-forward g′ (g .node x) fw (I .polled st))) x refl
+  pub answered-next : (g′ : View) (n : Note) (p : ℕ) (v : ViewNode) → Change f x g n p v → ((q : ℕ) → Forward (g .node q) (g′ .node q))
+      → (replaced (g .node) p v x) .stage ≡ storing → CountedAnswered x g′ (replaced (g .node) p v x)
+  answered-next g′ n p v c fw = replaced-each (λ q w. q ≡ x → w .stage ≡ storing → CountedAnswered x g′ w) (g .node) p v
+      (λ z st. answered-forward g′ v fw (answered-change n p v c z st))
+      (λ q d z. of-x x g (λ w. w .stage ≡ storing → CountedAnswered x g′ w) q z (λ st. answered-forward g′ (g .node x) fw (I .answered st))) x refl

@@ -46,15 +46,15 @@ holds-fetching : (A : ℕ → Bool) (s : Item) (ms : List ViewMessage) (p : ℕ)
 holds-fetching A s ms p v d c w = record { when-live = λ e. clash (cc); when-counted = λ e. c; when-coming = λ e. w }
 
 -- What a change does to a node, whatever it is for: this is all that a quorum sees of it.
-pub data Turn (f : ℕ) (g : View) (p : ℕ) (w : ViewNode) : Type 0 where
-  livesOn : StaysLive (g .node p) w → Above ((g .node p) .item) (w .item) → Turn f g p w
-  goesDown : w .phase ≡ down → w .incarnation ≡ (g .node p) .incarnation → Turn f g p w
-  restarts : w .phase ≡ fetching → w .incarnation ≡ suc ((g .node p) .incarnation) → ((q : ℕ) → w .counted q ≡ false) → Turn f g p w
+pub data NodeStep (f : ℕ) (g : View) (p : ℕ) (w : ViewNode) : Type 0 where
+  livesOn : StaysLive (g .node p) w → Above ((g .node p) .item) (w .item) → NodeStep f g p w
+  goesDown : w .phase ≡ down → w .incarnation ≡ (g .node p) .incarnation → NodeStep f g p w
+  restarts : w .phase ≡ fetching → w .incarnation ≡ suc ((g .node p) .incarnation) → ((q : ℕ) → w .counted q ≡ false) → NodeStep f g p w
   countsTable : (q : ℕ) (r : Item) → CountsTable g p q r w → w .phase ≡ fetching → w .counted ≡ replaced ((g .node p) .counted) q true
-      → Merged (g .node p) r (w .item) (w .marked) → Turn f g p w
+      → Merged (g .node p) r (w .item) (w .marked) → NodeStep f g p w
   rebuilds : (q : ℕ) (r : Item) → CountsTable g p q r w → suc f ≤ count (replaced ((g .node p) .counted) q true) (groupSize f)
-      → live (w .phase) ≡ true → Merged (g .node p) r (w .item) false → Turn f g p w
-  stays : w ≡ g .node p → Turn f g p w
+      → live (w .phase) ≡ true → Merged (g .node p) r (w .item) false → NodeStep f g p w
+  stays : w ≡ g .node p → NodeStep f g p w
 
 module _ (A : ℕ → Bool) (s : Item) (g : View) (p : ℕ) where
   -- once a table of a node of A is counted, s is covered
@@ -76,26 +76,26 @@ module _ (A : ℕ → Bool) (s : Item) (g : View) (p : ℕ) where
         go b = above-covers s (w .item) (table-covers q r w (w .item) false T M h (b .at) (b .right) (b .left))
 
     -- no Table has been sent to p for an incarnation that is still to come
-    holds-turn : ((q o : ℕ) (r : Item) → Sent (tableFrom q p o r) g → o ≤ (g .node p) .incarnation) → (w : ViewNode) → Turn f g p w
+    holds-step : ((q o : ℕ) (r : Item) → Sent (tableFrom q p o r) g → o ≤ (g .node p) .incarnation) → (w : ViewNode) → NodeStep f g p w
         → Holds A s (g .sent) p (g .node p) → Holds A s (g .sent) p w
-    holds-turn past w (livesOn L r) h =
+    holds-step past w (livesOn L r) h =
         holds-live A s (g .sent) p w (live-not-fetching w (L .is-live)) (above-trans s ((g .node p) .item) (w .item) (h .when-live (L .was-live)) r)
-    holds-turn past w (goesDown d e) h = holds-down A s (g .sent) p w d
-    holds-turn past w (restarts d e none) h = holds-fetching A s (g .sent) p w d
+    holds-step past w (goesDown d e) h = holds-down A s (g .sent) p w d
+    holds-step past w (restarts d e none) h = holds-fetching A s (g .sent) p w d
         (λ q a c. absurd (false≢true (sym (none q) ∙ c)))
         (λ q r a m. absurd (omega (arith, past q (w .incarnation) r m)))
-    holds-turn past w (countsTable q r T d c M) h = holds-fetching A s (g .sent) p w d
+    holds-step past w (countsTable q r T d c M) h = holds-fetching A s (g .sent) p w d
         (λ k a b. table-covers q r w (w .item) (w .marked) T M h k a (rw c at b))
         (λ k i a m. h .when-coming (T .was-fetching) k i a (rw (T .same-incarnation) at m))
-    holds-turn past w (rebuilds q r T c d M) h = holds-live A s (g .sent) p w (live-not-fetching w d) (rebuilt-above q r w T c M h)
-    holds-turn past w (stays e) h = rw e h
+    holds-step past w (rebuilds q r T c d M) h = holds-live A s (g .sent) p w (live-not-fetching w d) (rebuilt-above q r w T c M h)
+    holds-step past w (stays e) h = rw e h
 
     -- A Table that is sent is that of a live node, so if that node is in A, it is above s.
     pub held-next : (x : ℕ) (v : ViewNode) (ms : List ViewMessage)
         → ((q o : ℕ) (r : Item) → Sent (tableFrom q p o r) g → o ≤ (g .node p) .incarnation)
-        → Turn f g p v → Each (MaySend x g p v) ms → Held A s g → Held A s (put g p v ms)
+        → NodeStep f g p v → Each (MaySend x g p v) ms → Held A s g → Held A s (put g p v ms)
     held-next x v ms past T send h q a = more (replaced (g .node) p v q)
-        (replaced-each (λ k w. A k ≡ true → Holds A s (g .sent) k w) (g .node) p v (λ b. holds-turn past v T (h p b)) (λ k d. h k) q a)
+        (replaced-each (λ k w. A k ≡ true → Holds A s (g .sent) k w) (g .node) p v (λ b. holds-step past v T (h p b)) (λ k d. h k) q a)
       where
         more : (w : ViewNode) → Holds A s (g .sent) q w → Holds A s (ms ++ g .sent) q w
         more w k = record {

@@ -15,9 +15,9 @@ use Rattle.returns.specs.View.{fetching, idle, ViewNode, ViewMessage, Vi
 use Rattle.returns.specs.Change.{MaySend, Change, Next, same, did}
 use Rattle.returns.specs.Quorum.{KeepsHeld, held-next, holds-live}
 use Rattle.returns.specs.Invariant.{Quorum, Invariant}
-use Rattle.returns.specs.Turns.{Forward, turn-of, forward-next, past-next}
+use Rattle.returns.specs.NodeSteps.{Forward, node-step, forward-next, past-next}
 use Rattle.returns.specs.Items.{tells, known-zero, known-next, may-tell, item-change, items-next}
-use Rattle.returns.specs.Own.{own-change, own-next, polled-next}
+use Rattle.returns.specs.Own.{own-change, own-next, answered-next}
 use Rattle.returns.specs.Confirming.{asked-next, quorum-next}
 use Rattle.returns.specs.Messages.{messages-next}
 
@@ -38,13 +38,13 @@ module _ (f x : ℕ) (below : x < groupSize f) where
       (c : Change f x g n p v) (send : Each (MaySend x g p v) ms) where
     -- no change undoes what f + 1 nodes hold
     held-change : KeepsHeld f g (put g p v ms)
-    held-change A s many = held-next A s g p f many x v ms (λ q o r m. (I .messages _ m) .0) (turn-of f x h g I n p v c) send
+    held-change A s many = held-next A s g p f many x v ms (λ q o r m. (I .messages _ m) .0) (node-step f x h g I n p v c) send
 
     quorum-kept : (s : Item) → Quorum f x s g → Quorum f x s (put g p v ms)
     quorum-kept s Q = record { members = Q .members; with-x = Q .with-x; many = Q .many; held = held-change (Q .members) s (Q .many) (Q .held) }
 
     forward : (q : ℕ) → Forward (g .node q) (replaced (g .node) p v q)
-    forward = forward-next f g p v (turn-of f x h g I n p v c)
+    forward = forward-next f g p v (node-step f x h g I n p v c)
 
     pub invariant-change : Invariant f x (afterNote h n) (put g p v ms)
     invariant-change = record {
@@ -53,7 +53,7 @@ module _ (f x : ℕ) (below : x < groupSize f) where
           (known-next f x h g I n p (tells f x g n p v c)) forward (past-next f x h g I n p v c)
           (item-change f x h g I n p v c) (own-change f x h g I n p v c) send;
       own = own-next f x h g I n p v c;
-      polled = polled-next f x h g I (put g p v ms) n p v c forward;
+      answered = answered-next f x h g I (put g p v ms) n p v c forward;
       asked = asked-next f x h g I n p v ms c send forward held-change;
       quorum = quorum-kept ((afterNote h n) .last) (quorum-next f x h g I below n p (tells f x g n p v c));
     }
@@ -79,7 +79,7 @@ module _ (f x : ℕ) (below : x < groupSize f) where
       when-returning = λ u. rw ((s x) .zero-item) (above-refl zeroItem);
       when-off = λ u. (s x) .is-idle;
     };
-    polled = λ e. let i = (s x) .is-idle in clash (cc);
+    answered = λ e. let i = (s x) .is-idle in clash (cc);
     asked = λ e. let i = (s x) .is-idle in clash (cc);
     quorum = record {
       members = λ q. true;

@@ -13,12 +13,12 @@ use Rattle.returns.specs.View.{down, fetching, up, idle, storing, confir
 use Rattle.returns.specs.Change.{SameWrite, StaysLive, Change}
 use Rattle.returns.specs.Change.{atWrite, atRetry, atCrash, atStart, atStore, atStored, atLastStored}
 use Rattle.returns.specs.Change.{atConfirmed, atLastConfirmed, atTable, atLastTable, elsewhere, unchanged}
-use Rattle.returns.specs.Quorum.{Turn, livesOn, goesDown, restarts, countsTable, rebuilds, stays, live-not-fetching}
+use Rattle.returns.specs.Quorum.{NodeStep, livesOn, goesDown, restarts, countsTable, rebuilds, stays, live-not-fetching}
 use Rattle.returns.specs.Invariant.{Answered, Past, Invariant, writing-live}
 
 -- a live node whose phase and item stay
 goes-on : (f : ℕ) (g : View) (p : ℕ) (w : ViewNode) → live ((g .node p) .phase) ≡ true → w .incarnation ≡ (g .node p) .incarnation
-    → w .phase ≡ (g .node p) .phase → w .item ≡ (g .node p) .item → Turn f g p w
+    → w .phase ≡ (g .node p) .phase → w .item ≡ (g .node p) .item → NodeStep f g p w
 goes-on f g p w l i e k =
     livesOn (record { same-incarnation = i; was-live = l; is-live = rw e l; stays-up = λ u. e ∙ u }) (rw k (above-refl ((g .node p) .item)))
 
@@ -29,24 +29,24 @@ module _ (f x : ℕ) (h : History) (g : View) (I : Invariant f x h g) where
   pub confirming-live : (g .node x) .stage ≡ confirming → live ((g .node x) .phase) ≡ true
   confirming-live e = writing-live h (g .node x) (I .own) (λ z. clash (cc))
 
-  pub turn-of : (n : Note) (p : ℕ) (v : ViewNode) → Change f x g n p v → Turn f g p v
-  turn-of n p v (atWrite t _ e s b u a k) =
+  pub node-step : (n : Note) (p : ℕ) (v : ViewNode) → Change f x g n p v → NodeStep f g p v
+  node-step n p v (atWrite t _ e s b u a k) =
       livesOn (record { same-incarnation = b .same-incarnation; was-live = rw e; is-live = rw u; stays-up = λ z. u })
       (rw k (above-higher ((g .node x) .item) (oneAbove ((g .node x) .item) t) (omega arith)))
-  turn-of n p v (atRetry _ d b u a k) = goes-on f g p v (writing-live h (g .node x) (I .own) d) (b .same-incarnation) u k
-  turn-of n p v (atCrash _ _ i u s k) = goesDown u i
-  turn-of n p v (atStart _ _ i u s k c) = restarts u i c
-  turn-of n p v (atStore _ i a k _ d m r l e) = livesOn l (rw e r)
-  turn-of n p v (atStored q i _ c w u s e e′) = goes-on f g p v (storing-live (c .in-storing)) (w .same-incarnation) u (w .same-item)
-  turn-of n p v (atLastStored q i _ c w u s e e′ z) = goes-on f g p v (storing-live (c .in-storing)) (w .same-incarnation) u (w .same-item)
-  turn-of n p v (atConfirmed q _ c w u s e e′ z) = goes-on f g p v (confirming-live (c .in-confirming)) (w .same-incarnation) u (w .same-item)
-  turn-of n p v (atLastConfirmed q _ _ c m w u s r) =
+  node-step n p v (atRetry _ d b u a k) = goes-on f g p v (writing-live h (g .node x) (I .own) d) (b .same-incarnation) u k
+  node-step n p v (atCrash _ _ i u s k) = goesDown u i
+  node-step n p v (atStart _ _ i u s k c) = restarts u i c
+  node-step n p v (atStore _ i a k _ d m r l e) = livesOn l (rw e r)
+  node-step n p v (atStored q i _ c w u s e e′) = goes-on f g p v (storing-live (c .in-storing)) (w .same-incarnation) u (w .same-item)
+  node-step n p v (atLastStored q i _ c w u s e e′ z) = goes-on f g p v (storing-live (c .in-storing)) (w .same-incarnation) u (w .same-item)
+  node-step n p v (atConfirmed q _ c w u s e e′ z) = goes-on f g p v (confirming-live (c .in-confirming)) (w .same-incarnation) u (w .same-item)
+  node-step n p v (atLastConfirmed q _ _ c m w u s r) =
       livesOn (record { same-incarnation = w .same-incarnation; was-live = confirming-live (c .in-confirming); is-live = rw u; stays-up = λ z. u })
       (rw (w .same-item) (above-refl ((g .node x) .item)))
-  turn-of n p v (atTable _ q r _ t u s c m) = countsTable q r t u c m
-  turn-of n p v (atLastTable _ q r _ t c u m b) = rebuilds q r t c (rw u) m
-  turn-of n p v (elsewhere _ _ d l k) = livesOn l (rw k (above-refl ((g .node p) .item)))
-  turn-of n p v (unchanged _ _ e) = stays e
+  node-step n p v (atTable _ q r _ t u s c m) = countsTable q r t u c m
+  node-step n p v (atLastTable _ q r _ t c u m b) = rebuilds q r t c (rw u) m
+  node-step n p v (elsewhere _ _ d l k) = livesOn l (rw k (above-refl ((g .node p) .item)))
+  node-step n p v (unchanged _ _ e) = stays e
 
 -- an incarnation never falls, and an answer stays true
 pub record Forward (v w : ViewNode) : Type 0 where
@@ -79,22 +79,22 @@ forward-fetching v w i d = record {
     go k (inl u) = clash (cc)
     go k (inr z) = let u : v .phase ≡ up = z .0 in clash (cc)
 
-forward-turn : (f : ℕ) (g : View) (p : ℕ) (w : ViewNode) → Turn f g p w → Forward (g .node p) w
-forward-turn f g p w (livesOn l r) = forward-live (g .node p) w l r
-forward-turn f g p w (goesDown d i) = record {
+forward-step : (f : ℕ) (g : View) (p : ℕ) (w : ViewNode) → NodeStep f g p w → Forward (g .node p) w
+forward-step f g p w (livesOn l r) = forward-live (g .node p) w l r
+forward-step f g p w (goesDown d i) = record {
   no-earlier = omega arith;
   still-answered = λ j k a. record { not-later = omega (arith, a .not-later); solid = λ e. inl d };
 }
-forward-turn f g p w (restarts d i c) = record {
+forward-step f g p w (restarts d i c) = record {
   no-earlier = omega arith;
   still-answered = λ j k a. record { not-later = omega (arith, a .not-later); solid = λ e. absurd (omega (arith, a .not-later)) };
 }
-forward-turn f g p w (countsTable q r t d c m) = forward-fetching (g .node p) w (t .same-incarnation) (t .was-fetching)
-forward-turn f g p w (rebuilds q r t c d m) = forward-fetching (g .node p) w (t .same-incarnation) (t .was-fetching)
-forward-turn f g p w (stays e) = rw e (forward-refl (g .node p))
+forward-step f g p w (countsTable q r t d c m) = forward-fetching (g .node p) w (t .same-incarnation) (t .was-fetching)
+forward-step f g p w (rebuilds q r t c d m) = forward-fetching (g .node p) w (t .same-incarnation) (t .was-fetching)
+forward-step f g p w (stays e) = rw e (forward-refl (g .node p))
 
-pub forward-next : (f : ℕ) (g : View) (p : ℕ) (w : ViewNode) → Turn f g p w → (q : ℕ) → Forward (g .node q) (replaced (g .node) p w q)
-forward-next f g p w t = replaced-each (λ q u. Forward (g .node q) u) (g .node) p w (forward-turn f g p w t) (λ q d. forward-refl (g .node q))
+pub forward-next : (f : ℕ) (g : View) (p : ℕ) (w : ViewNode) → NodeStep f g p w → (q : ℕ) → Forward (g .node q) (replaced (g .node) p w q)
+forward-next f g p w t = replaced-each (λ q u. Forward (g .node q) u) (g .node) p w (forward-step f g p w t) (λ q d. forward-refl (g .node q))
 
 -- x's own node: it stays live, and is Storing only if it was so, or under a later attempt
 past-live : (v w : ViewNode) → w .incarnation ≡ v .incarnation → live (v .phase) ≡ true → (w .phase ≡ fetching → ⊥) → v .attempt ≤ w .attempt
