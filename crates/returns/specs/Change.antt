@@ -122,7 +122,8 @@ module _ (f x : ℕ) where
         → v .askedUnder ≡ (g .node x) .askedUnder → Change g quiet x v
     -- the f-th Confirmed: x is done
     atLastConfirmed : (q : ℕ) (n : Note) (v : ViewNode) → CountsConfirmed x g q
-        → f ≤ count (replaced ((g .node x) .counted) q true) (groupSize f) → SameWrite (g .node x) v → v .phase ≡ up → v .stage ≡ idle → Finishes (g .node x) n → Change g n x v
+        → f ≤ count (replaced ((g .node x) .counted) q true) (groupSize f) → SameWrite (g .node x) v → v .phase ≡ up
+        → v .stage ≡ idle → Finishes (g .node x) n → Change g n x v
     -- a Table counted by any node, and still fewer than f + 1
     atTable : (p q : ℕ) (r : Item) (v : ViewNode) → CountsTable g p q r v → v .phase ≡ fetching → v .stage ≡ idle
         → v .counted ≡ replaced ((g .node p) .counted) q true → Merged (g .node p) r (v .item) (v .marked) → Change g quiet p v

@@ -8,21 +8,20 @@ use mathlib.Core.List.{List, _++_, List·Memᴰ, List·Memᴰ·append-cases, Mem
 use Rattle.item.specs.declared.Item.{Item}
 use Rattle.returns.specs.Replace.{replaced, replaced-same, replaced-other, replaced-each}
 use Rattle.returns.specs.Majority.{bit, count, groupSize, count-replaced}
-use Rattle.returns.specs.Rank.{Above, above-refl}
+use Rattle.returns.specs.Rank.{above-refl}
 use Rattle.returns.specs.History.{Note, History, afterNote}
-use Rattle.returns.specs.View.{down, up, confirming, ViewNode, ViewMessage, confirmedBy, View, live, put, Sent, Each, clash}
+use Rattle.returns.specs.View.{up, confirming, ViewNode, ViewMessage, confirmedBy, View, live, put, Sent, Each, clash}
 use Rattle.returns.specs.Change.{Present, CountsStored, CountsConfirmed, SameWrite, MaySend, Change}
 use Rattle.returns.specs.Change.{atWrite, atRetry, atCrash, atStart, atStore, atStored, atLastStored}
 use Rattle.returns.specs.Change.{atConfirmed, atLastConfirmed, atTable, atLastTable, elsewhere, unchanged}
 use Rattle.returns.specs.Quorum.{Holds, KeepsHeld, holds-live, holds-down, live-not-fetching}
-use Rattle.returns.specs.Invariant.{Answered, HasConfirmed, MayConfirm, Asked, Quorum, Invariant}
+use Rattle.returns.specs.Invariant.{DownOrHas, Answered, HasConfirmed, MayConfirm, Asked, Quorum, Invariant}
 use Rattle.returns.specs.NodeSteps.{Forward, storing-live}
 use Rattle.returns.specs.Items.{Tells, tellsNothing, tellsBegun, tellsFinished, finished-is}
 use Rattle.returns.specs.Own.{of-x, answered-more}
 
 -- a node that answered, and has not restarted since, holds the item
-answered-holds : (A : ℕ → Bool) (s : Item) (ms : List ViewMessage) (p : ℕ) (v : ViewNode)
-    → (v .phase ≡ down) ⊎ ((v .phase ≡ up) × Above s (v .item)) → Holds A s ms p v
+answered-holds : (A : ℕ → Bool) (s : Item) (ms : List ViewMessage) (p : ℕ) (v : ViewNode) → DownOrHas s v → Holds A s ms p v
 answered-holds A s ms p v (inl d) = holds-down A s ms p v d
 answered-holds A s ms p v (inr u) = let e : v .phase ≡ up = u .0 in holds-live A s ms p v (λ z. clash (cc)) (u .1)
 
@@ -81,7 +80,7 @@ module _ (f x : ℕ) (h : History) (g : View) (I : Invariant f x h g) where
       holds : (B : ℕ → Bool) → ((k : ℕ) → B k ≡ true → v .asked k ≡ true) → ((k : ℕ) → B k ≡ true → MayConfirm (put g x v ms) v k)
           → (k : ℕ) → k ≢ x → B k ≡ true → Holds (replaced B x true) (v .item) (ms ++ g .sent) k (g .node k)
       holds B sub can k d b = answered-holds (replaced B x true) (v .item) (ms ++ g .sent) k (g .node k)
-          (((answered k (sub k b)) .1) .solid (sym (present k d (can k b))))
+          (((answered k (sub k b)) .1) .unless-restarted (sym (present k d (can k b))))
 
   -- one more Confirmed is counted, whether it is the f-th or not
   confirmed-more : (q : ℕ) → CountsConfirmed x g q → (k : ℕ) → replaced ((g .node x) .counted) q true k ≡ true

@@ -1,5 +1,5 @@
 -- What holds of every view that a run reaches, given the history of x up to there. Two parts carry the claim: some quorum
--- holds x's last item, and every item of x that is about anywhere is at most one index above it, and then was begun.
+-- holds x's last item, and every item of x in a row or a message is at most one index above it, and then was begun.
 use Prim.Native.Nat.{ℕ, suc, _≤_, _<_}
 use mathlib.Core.Path.{_≡_, refl}
 use mathlib.Core.Logic.{_≢_, _⊎_}
@@ -14,16 +14,19 @@ use Rattle.returns.specs.View.{down, fetching, returning, up, idle, stor
 use Rattle.returns.specs.View.{storeTo, storedBy, confirmTo, confirmedBy, fetchFrom, tableFrom, View, live, Sent, Each}
 use Rattle.returns.specs.Quorum.{Held}
 
--- an item of x that may be about
+-- an item of x that may stand in a row or a message
 pub record Known (h : History) (i : Item) : Type 0 where
   pub not-far : i .index .0 ≤ suc (h .last .index .0)
   pub was-begun : i .index .0 ≡ suc (h .last .index .0) → List·Memᴰ i (h .begun)
+
+abbrev pub DownOrHas : Item → ViewNode → Type 0
+DownOrHas k v = (v .phase ≡ down) ⊎ ((v .phase ≡ up) × Above k (v .item))
 
 -- v has answered under incarnation i that it stored the item k: unless it has restarted since, it is Down, or Up with k or
 -- an item above k
 pub record Answered (i : ℕ) (k : Item) (v : ViewNode) : Type 0 where
   pub not-later : i ≤ v .incarnation
-  pub solid : i ≡ v .incarnation → (v .phase ≡ down) ⊎ ((v .phase ≡ up) × Above k (v .item))
+  pub unless-restarted : i ≡ v .incarnation → DownOrHas k v
 
 -- under incarnation i and attempt a, v has left the Storing stage
 pub record Past (i a : ℕ) (v : ViewNode) : Type 0 where
@@ -32,14 +35,15 @@ pub record Past (i a : ℕ) (v : ViewNode) : Type 0 where
   pub not-later-attempt : live (v .phase) ≡ true → i ≡ v .incarnation → a ≤ v .attempt
   pub before-storing : v .stage ≡ storing → i ≡ v .incarnation → a < v .attempt
 
--- x's own node: Idle it has its last item, writing it has an item of the next index, Returning one above the last
+-- x's own node: Up and Idle it has its last item, Up and writing an item of the next index, Returning an item above the last;
+-- Down or Fetching it is Idle
 pub record Own (h : History) (v : ViewNode) : Type 0 where
   pub when-idle : v .phase ≡ up → v .stage ≡ idle → v .item ≡ h .last
   pub when-writing : v .phase ≡ up → (v .stage ≡ idle → ⊥) → v .item .index .0 ≡ suc (h .last .index .0)
   pub when-returning : v .phase ≡ returning → Above (h .last) (v .item)
   pub when-off : live (v .phase) ≡ false → v .stage ≡ idle
 
--- what each message says
+-- what a message tells for certain, by its kind
 abbrev pub MessageHolds : ℕ → History → View → ViewMessage → Type 0
 MessageHolds x h g (storeTo q i a k) = Known h k
 MessageHolds x h g (storedBy q i o a k) = Answered i k (g .node q)
@@ -83,7 +87,7 @@ pub record Invariant (f x : ℕ) (h : History) (g : View) : Type 0 where
   pub asked : (g .node x) .stage ≡ confirming → Asked f x g (g .node x)
   pub quorum : Quorum f x (h .last) g
 
--- a node of x that writes is live
+-- x is live while it writes
 pub writing-live : (h : History) (v : ViewNode) → Own h v → (v .stage ≡ idle → ⊥) → live (v .phase) ≡ true
 writing-live h v o d = go (live (v .phase)) refl
   where

@@ -1,5 +1,5 @@
--- The items of x that are about, and what x's answers say: an item that was known stays known, and an item with which x
--- returns is its last, or was begun next.
+-- The items of x in rows and messages, and what x's answers tell: an item that was known stays known, and an item with which
+-- x returns is its last, or one of the next index that it has begun.
 use Prim.Native.Nat.{ℕ, _≤_, _<_}
 use native.Mathlib.Omega.{arith}
 use mathlib.Core.Path.{_≡_, refl, ap, _∙_}
@@ -61,7 +61,7 @@ by-phase P v n l d s r = go (v .phase) refl
     go returning e = rw (d .when-returning e) r
     go up e = rw (d .when-up e) s
 
-pub after-finished : (h : History) (v : ViewNode) (n : Note) → live (v .phase) ≡ true → Finishes v n → afterNote h n ≡ lastIs h (v .item)
+after-finished : (h : History) (v : ViewNode) (n : Note) → live (v .phase) ≡ true → Finishes v n → afterNote h n ≡ lastIs h (v .item)
 after-finished h v n l d = by-phase (λ m. afterNote h m ≡ lastIs h (v .item)) v n l d refl refl
 
 pub known-zero : (h : History) → Known h zeroItem

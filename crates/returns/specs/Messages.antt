@@ -43,7 +43,7 @@ module _ (f x : ℕ) (h : History) (g : View) (I : Invariant f x h g) (h′ : Hi
   message-new : Known h′ (v .item) → (p ≡ x → Own h′ v) → (m : ViewMessage) → MaySend x g p v m → MessageHolds x h′ (put g p v ms) m
   message-new item own (storeTo q i a k) s = rw s item
   message-new item own (storedBy q i o a k) s = at-changed (Answered i k) (g .node) p v q (s .0) (rw (s .2, s .3)
-      (record { not-later = omega arith; solid = λ e. inr (s .1, above-refl (v .item)) }))
+      (record { not-later = omega arith; unless-restarted = λ e. inr (s .1, above-refl (v .item)) }))
   message-new item own (confirmTo q i o a k) s =
       at-changed (Past i a) (g .node) p v x (sym (s .0)) (rw (s .2, s .3) (past-confirming h′ v (own (s .0)) (s .1)))
   message-new item own (confirmedBy q i o a k) s = past o a (I .messages _ (s .3))

@@ -1,5 +1,5 @@
--- Every change is one of the six turns that a quorum sees, and nodes only move forward: what a node has answered stays
--- answered, and what x has left behind stays behind.
+-- Every change is one of the six steps of a node that a quorum sees, and nodes only move forward: what a node has answered
+-- stays true, and a stage that x has left it does not enter again.
 use Prim.Native.Nat.{ℕ, _≤_, _<_}
 use native.Mathlib.Omega.{arith}
 use mathlib.Core.Path.{_≡_, refl, _∙_}
@@ -14,7 +14,7 @@ use Rattle.returns.specs.Change.{SameWrite, StaysLive, Change}
 use Rattle.returns.specs.Change.{atWrite, atRetry, atCrash, atStart, atStore, atStored, atLastStored}
 use Rattle.returns.specs.Change.{atConfirmed, atLastConfirmed, atTable, atLastTable, elsewhere, unchanged}
 use Rattle.returns.specs.Quorum.{NodeStep, livesOn, goesDown, restarts, countsTable, rebuilds, stays, live-not-fetching}
-use Rattle.returns.specs.Invariant.{Answered, Past, Invariant, writing-live}
+use Rattle.returns.specs.Invariant.{DownOrHas, Answered, Past, Invariant, writing-live}
 
 -- a live node whose phase and item stay
 goes-on : (f : ℕ) (g : View) (p : ℕ) (w : ViewNode) → live ((g .node p) .phase) ≡ true → w .incarnation ≡ (g .node p) .incarnation
@@ -61,21 +61,21 @@ forward-live v w l r = record {
   no-earlier = omega (arith, l .same-incarnation);
   still-answered = λ i k a. record {
     not-later = omega (arith, a .not-later, l .same-incarnation);
-    solid = λ e. go k (a .solid (e ∙ l .same-incarnation));
+    unless-restarted = λ e. go k (a .unless-restarted (e ∙ l .same-incarnation));
   };
 }
   where
-    go : (k : Item) → (v .phase ≡ down) ⊎ ((v .phase ≡ up) × Above k (v .item)) → (w .phase ≡ down) ⊎ ((w .phase ≡ up) × Above k (w .item))
+    go : (k : Item) → DownOrHas k v → DownOrHas k w
     go k (inl d) = let e : live (v .phase) ≡ true = l .was-live in clash (cc)
     go k (inr u) = inr (l .stays-up (u .0), above-trans k (v .item) (w .item) (u .1) r)
 
 forward-fetching : (v w : ViewNode) → w .incarnation ≡ v .incarnation → v .phase ≡ fetching → Forward v w
 forward-fetching v w i d = record {
   no-earlier = omega arith;
-  still-answered = λ j k a. record { not-later = omega (arith, a .not-later); solid = λ e. absurd (go k (a .solid (e ∙ i))) };
+  still-answered = λ j k a. record { not-later = omega (arith, a .not-later); unless-restarted = λ e. absurd (go k (a .unless-restarted (e ∙ i))) };
 }
   where
-    go : (k : Item) → (v .phase ≡ down) ⊎ ((v .phase ≡ up) × Above k (v .item)) → ⊥
+    go : (k : Item) → DownOrHas k v → ⊥
     go k (inl u) = clash (cc)
     go k (inr z) = let u : v .phase ≡ up = z .0 in clash (cc)
 
@@ -83,11 +83,11 @@ forward-step : (f : ℕ) (g : View) (p : ℕ) (w : ViewNode) → NodeStep f g p 
 forward-step f g p w (livesOn l r) = forward-live (g .node p) w l r
 forward-step f g p w (goesDown d i) = record {
   no-earlier = omega arith;
-  still-answered = λ j k a. record { not-later = omega (arith, a .not-later); solid = λ e. inl d };
+  still-answered = λ j k a. record { not-later = omega (arith, a .not-later); unless-restarted = λ e. inl d };
 }
 forward-step f g p w (restarts d i c) = record {
   no-earlier = omega arith;
-  still-answered = λ j k a. record { not-later = omega (arith, a .not-later); solid = λ e. absurd (omega (arith, a .not-later)) };
+  still-answered = λ j k a. record { not-later = omega (arith, a .not-later); unless-restarted = λ e. absurd (omega (arith, a .not-later)) };
 }
 forward-step f g p w (countsTable q r t d c m) = forward-fetching (g .node p) w (t .same-incarnation) (t .was-fetching)
 forward-step f g p w (rebuilds q r t c d m) = forward-fetching (g .node p) w (t .same-incarnation) (t .was-fetching)

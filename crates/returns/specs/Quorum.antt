@@ -1,7 +1,7 @@
--- A set A of nodes that holds an item s, in the sense that no later call can undo (`held-next`) as long as A has f + 1 nodes.
--- A live node of A has an item above s. A node of A that is Fetching may have lost what it knew, but whatever reaches it from
--- another node of A under its present incarnation is above s, and what it has counted from such nodes covers s; since f + 1
--- tables meet A, it is above s again when it is rebuilt.
+-- When a set A of nodes holds an item s; if A has f + 1 nodes, no later call undoes it (`held-next`). A live node of A has an
+-- item above s. A node of A that is Fetching has lost what it knew, but every table that a node of A sent it under its
+-- present incarnation is above s, and what it has counted of such tables covers s. Since any f + 1 tables include one of A,
+-- it has an item above s again when it is rebuilt.
 use Prim.Native.Nat.{ℕ, suc, _≤_}
 use native.Mathlib.Omega.{arith}
 use mathlib.Core.Path.{_≡_, sym, _∙_}

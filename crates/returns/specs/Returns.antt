@@ -1,5 +1,5 @@
--- The theorem: from set-up on, whatever calls are made, no note of x is one that it may not have. The invariant holds of the
--- group as set up and is kept by every call, and where it holds the next note is allowed.
+-- The theorem: from set-up on, whatever calls are made, every note of x is one that "Runs and returns" allows. The invariant
+-- holds of the group as set up and is kept by every call, and where it holds the next note is allowed.
 use Prim.Native.Nat.{ℕ, _<_}
 use native.Mathlib.Omega.{arith}
 use mathlib.Core.Path.{_≡_, refl}
