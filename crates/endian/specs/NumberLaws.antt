@@ -6,10 +6,10 @@ use mathlib.Core.List.{List, [], _∷_, _++_}
 use native.Mathlib.Omega.{arith}
 use native.Mathlib.Numerals.{add-one}
 use native.Mathlib.Nat.{suc-add, zero-add, pow-suc, pow-succ', mul-assoc, mod-add-div, mod-mod, mod-lt, mod-eq-of-lt, div-eq-of-lt, div-lt-iff-lt-mul, div-div-eq-div-mul, div-one, add-mul-div-left, add-mul-mod-self-left, mul-add-mod-self-left}
-use lib.ListN.{length, take, drop, getD, set}
-use lib.Seq.{take-add, drop-drop, drop-cons}
+use lib.ListN.{length, take, drop, getD, set, length-take, take-append-drop, List·getD-eq-default}
+use lib.Seq.{take-add, drop-drop, drop-cons, getD-take, getD-drop}
 use Rattle.endian.specs.Part.{part, withPart}
-use Rattle.endian.specs.PartLaws.{part-is, part-none, length-middle, length-with, part-with, with-none, with-joined, sets-is}
+use Rattle.endian.specs.PartLaws.{by-order, part-is, part-none, length-middle, length-with, part-with, with-none, with-joined, sets-is}
 use Rattle.endian.specs.Number.{value, bytes, numberAt, withNumber, AreBytes}
 
 pub length-bytes : (w v : ℕ) → length (bytes w v) ≡ w
@@ -131,3 +131,24 @@ length-with-number w s at v = length-with w s at (bytes w v) (length-bytes w v)
 pub number-of-with : (w : ℕ) (s : List ℕ) (at v : ℕ) → at + w ≤ length s → v < 256 ^ w → numberAt w (withNumber w s at v) at ≡ v
 unfolding numberAt withNumber
 number-of-with w s at v h k = ap value (part-with w s at (bytes w v) (length-bytes w v) h) ∙ value-bytes w v k
+
+pub bytes-drop : (n : ℕ) (l : List ℕ) → AreBytes l → AreBytes (drop n l)
+unfolding AreBytes
+bytes-drop n l k i = rw (getD-drop n l i 0) (k (n + i))
+
+pub bytes-take : (n : ℕ) (l : List ℕ) → AreBytes l → AreBytes (take n l)
+unfolding AreBytes
+bytes-take n l k i =
+    by-order n i
+    (λ h. rw (List·getD-eq-default (take n l) 0 {n = i} (omega (arith, length-take n l))) (omega arith))
+    (λ h. rw (getD-take n l i 0 h) (k i))
+
+-- a number that was read is written as it stood, before what follows it
+pub number-again : (w : ℕ) (s : List ℕ) (at : ℕ) → AreBytes s → at + w ≤ length s
+    → bytes w (numberAt w s at) ++ drop (at + w) s ≡ drop at s
+unfolding numberAt
+number-again w s at k h =
+    let l : length (take w (drop at s)) ≡ w = length-middle w s at h in
+    let e : bytes w (value (take w (drop at s))) ≡ take w (drop at s) =
+    ap (λ (n : ℕ). bytes n (value (take w (drop at s)))) (sym l) ∙ bytes-value (take w (drop at s)) (bytes-take w (drop at s) (bytes-drop at s k)) in
+    rw (part-is w s at h, e, ← drop-drop w at s) (take-append-drop w (drop at s))

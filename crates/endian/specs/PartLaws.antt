@@ -111,6 +111,11 @@ part-none zero s at h = refl
 part-none (suc w) s at h =
     rw (ne-eqb (length (take (suc w) (drop at s))) (suc w) (λ e. let m = simp (length-take, length-drop) at e in omega arith))
 
+-- a part between two others
+pub part-seam : (w : ℕ) (p q t : List ℕ) (at : ℕ) → length p ≡ at → length q ≡ w → part w (p ++ (q ++ t)) at ≡ q
+unfolding part whole
+part-seam w p q t at lp lq = rw (drop-at p (q ++ t) at lp, take-at q t w lq, eq-eqb (length q) w lq)
+
 -- what the test of a place tells, taken or left
 pub outside : {r : Bool} (w len at : ℕ) → r ≡ leb (at + w) len → not r ≡ true → len < at + w
 outside {r} w len at e h = leb-false (at + w) len (sym e ∙ not-true r h)

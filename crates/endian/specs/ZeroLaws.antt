@@ -1,7 +1,7 @@
 -- Laws of zero bytes: the test says what it should, and goes with bitwise or.
 use Prim.Native.Nat.{ℕ, zero, suc, _+_, _≤_, _<_}
 use mathlib.Core.Path.{_≡_, refl, sym, ap, _∙_}
-use mathlib.Core.Bool.{Bool, true, false, _&&_}
+use mathlib.Core.Bool.{Bool, true, false, _&&_, and-assoc, and-true}
 use mathlib.Core.List.{List, [], _∷_, _++_}
 use native.Mathlib.Omega.{arith}
 use native.Mathlib.Numerals.{add-one}
@@ -21,7 +21,8 @@ unfolding zeros allZero
 zeros-are-zero zero = refl
 zeros-are-zero (suc n) = zeros-are-zero n
 
-both : (a b : Bool) → a && b ≡ true → (a ≡ true) × (b ≡ true)
+-- two tests passed together
+pub both : (a b : Bool) → a && b ≡ true → (a ≡ true) × (b ≡ true)
 both true b e = (refl, e)
 both false b e = let z : _≡_ {A = ℕ} 0 1 = cc in let w : ⊥ = omega arith in absurd w
 
@@ -37,11 +38,7 @@ all-zero-is (b ∷ l) e =
 pub all-zero-append : (a b : List ℕ) → allZero (a ++ b) ≡ allZero a && allZero b
 unfolding allZero
 all-zero-append [] b = refl
-all-zero-append (x ∷ a) b = rw (all-zero-append a b) (assoc (eqb x 0) (allZero a) (allZero b))
-  where
-    assoc : (p q r : Bool) → p && (q && r) ≡ (p && q) && r
-    assoc true q r = refl
-    assoc false q r = refl
+all-zero-append (x ∷ a) b = rw (all-zero-append a b) (sym (and-assoc (eqb x 0) (allZero a) (allZero b)))
 
 -- or is zero exactly if both are
 pub or-zero : (a b : ℕ) → eqb (bitOr a b) 0 ≡ eqb a 0 && eqb b 0
@@ -56,9 +53,4 @@ pub zero-more : (s : List ℕ) (i joined : ℕ) → i < length s → eqb joined 
     → eqb (bitOr joined (getD s i 0)) 0 ≡ allZero (take (i + 1) s)
 unfolding allZero
 zero-more s i joined h e =
-    or-zero joined (getD s i 0) ∙ rw (e, add-one, take-suc s i 0 h, all-zero-append (take i s) (getD s i 0 ∷ [])) (last (allZero (take i s)) (eqb (getD s i 0) 0))
-  where
-    last : (p q : Bool) → p && q ≡ p && (q && true)
-    last true true = refl
-    last true false = refl
-    last false q = refl
+    or-zero joined (getD s i 0) ∙ rw (e, add-one, take-suc s i 0 h, all-zero-append (take i s) (getD s i 0 ∷ []), and-true (eqb (getD s i 0) 0))

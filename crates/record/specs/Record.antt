@@ -1,30 +1,26 @@
 -- A whole record (document 01, "Message store"): written, read, and what the chains need of it.
 use Prim.Native.Nat.{ℕ, _+_, _*_}
 use mathlib.Core.Bool.{Bool, true, false, _&&_, cond}
-use mathlib.Core.List.{List, _++_}
+use mathlib.Core.List.{List}
 use lib.Dec.{eqb}
-use lib.ListN.{length, take, drop}
-use Rattle.item.specs.Maxima.{maxNodes}
+use lib.ListN.{length, drop}
 use Rattle.item.specs.declared.Item.{Item}
 use Rattle.message.specs.declared.Message.{Message}
 use Rattle.message.specs.declared.Envelope.{Envelope}
-use Rattle.endian.specs.Number.{bytes, withNumber}
+use Rattle.endian.specs.Number.{withNumber}
 use Rattle.endian.specs.Zero.{zeros, allZero}
-use Rattle.record.specs.declared.kind.Fields.{Fields}
-use Rattle.record.specs.declared.kind.Known.{Known}
-use Rattle.record.specs.declared.kind.Known.the-variants as known
+use Rattle.layout.specs.declared.kind.Fields.{Fields}
+use Rattle.layout.specs.declared.kind.Known.{Known}
+use Rattle.layout.specs.declared.kind.Known.the-variants as known
 use Rattle.record.specs.declared.Reading.{Reading}
 use Rattle.record.specs.declared.Reading.the-variants.{Found, Fault}
-use Rattle.record.specs.Layout.{recordSize, rowsAt, rowSize, nextAt, kindAt, fieldBytes, fieldsIn, rowsBytes, padded}
-use Rattle.record.specs.Kind.{fieldsOf, messageOf, rowsHeld}
-
--- the rows that a record of this message holds: "n of them, then zeros"
-unfoldable pub heldRows : Message → ℕ → List Item → List Item
-heldRows m n rows = padded maxNodes (take (rowsHeld m n) rows)
+use Rattle.layout.specs.Layout.{recordSize, rowsAt, rowSize, nextAt, kindAt, fieldsIn, layoutBytes}
+use Rattle.layout.specs.Kind.{fieldsOf, messageOf, rowsHeld}
+pub use Rattle.layout.specs.Kind.{heldRows}
 
 -- the bytes of a record that holds a message, for a group of n
 unfoldable pub recordBytes : ℕ → ℕ → Envelope → List Item → List ℕ
-recordBytes n next e rows = bytes 2 next ++ (fieldBytes (fieldsOf e) ++ rowsBytes (heldRows (e .message) n rows))
+recordBytes n next e rows = layoutBytes next (fieldsOf e) (heldRows (e .message) n rows)
 
 -- the message under the sender, addressee and incarnation that fields say
 abbrev pub envelopeOf : Fields → Message → Envelope

@@ -1,11 +1,8 @@
 // One record of the message store: its bytes, read and written at any place of any slice. Everything is proved, no
 // public function has a `requires`, and each gives what one definition of specs/ says. A record that does not lie
 // whole within the slice reads as nothing and is not written, whatever number is handed in.
-mod kind;
-mod layout;
-
 use item::Item;
-use kind::Known;
+use layout::kind::Known;
 use message::Envelope;
 ghost use mathlib.Core.Path.{_≡_};
 ghost use Prim.Native.Nat.{_≤_};
@@ -13,6 +10,7 @@ ghost use lib.ListN.{length, drop};
 ghost use Rattle.endian.specs.Zero.{allZero};
 ghost use Rattle.record.specs.Layout.{recordSize, recordOf, withRecord, nextOf, rowsOf};
 ghost use Rattle.record.specs.Record.{readRecord, recordBytes, withNext, noRecord, zeroAfterNext};
+ghost use Rattle.record.specs.RoundTrip.{ReadsBack, WritesBack, Differ};
 
 // The bytes of a record.
 pub const SIZE: usize = layout::SIZE;
@@ -38,10 +36,10 @@ fn read_record(r: &[u8], n: usize) -> Reading
     ensures { λ a. ⌜ a ≡ readRecord n (now (r .entry)) ⌝ }
 {
     let fields = layout::read_fields(r);
-    let Known::Known(message) = kind::message_of(fields) else {
+    let Known::Known(message) = layout::kind::message_of(fields) else {
         return Reading::Fault;
     };
-    let from = layout::ROWS_AT + kind::rows_held(message, n) * layout::ROW_SIZE;
+    let from = layout::ROWS_AT + layout::kind::rows_held(message, n) * layout::ROW_SIZE;
     if !zero_from(r, from) {
         return Reading::Fault;
     }
@@ -93,8 +91,8 @@ pub fn write(
     }
     let a = i * SIZE;
     let message = envelope.message;
-    let held = layout::padded_rows(rows, kind::rows_held(message, n));
-    let fields = kind::fields_of(envelope);
+    let held = layout::held_rows(message, n, rows);
+    let fields = layout::kind::fields_of(envelope);
     layout::write_record(&mut s[a..a + SIZE], next, fields, held);
 }
 
@@ -141,3 +139,18 @@ pub fn zero_after_next(s: &[u8], i: usize) -> bool
     let a = i * SIZE;
     zero_from(&s[a..a + SIZE], layout::KIND_AT)
 }
+
+// Reading what was written gives it back: the message, its rows with zero items after them, and next.
+pub fn reads_back()
+    ensures { λ _. ⌜ ReadsBack ⌝ }
+{}
+
+// Writing what was read gives the bytes back, next and the address byte included.
+pub fn writes_back()
+    ensures { λ _. ⌜ WritesBack ⌝ }
+{}
+
+// Equal bytes are of one message, with one next and the same rows.
+pub fn differ()
+    ensures { λ _. ⌜ Differ ⌝ }
+{}

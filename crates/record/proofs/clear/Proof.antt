@@ -5,7 +5,7 @@ use lib.ListN.{length, take, drop}
 use native.Mathlib.Omega.{arith}
 use mathlib.Core.Path.{_≡_, refl, sym, ap, _∙_}
 use denote.Ref.{now}
-use Rattle.record.specs.LayoutLaws.{record-none, length-record-of, record-lent, record-back, with-record-none}
+use Rattle.record.specs.RecordLaws.{record-none, length-record-of, record-lent, record-back, with-record-none}
 use borrow.Author.Needs.{needs}
 use Rattle.record.proofs.clear.Statement.{statement}
 use Rattle.record.proofs.clear.Tie as tie

@@ -7,9 +7,9 @@ use denote.Ref.{now}
 use Rattle.endian.specs.Zero.{allZero}
 use Rattle.item.specs.Tests.{refuted, granted}
 use borrow.Author.Tests.{eq-eqb}
-use Rattle.record.specs.Layout.{fieldsIn}
-use Rattle.record.specs.KindLaws.{rows-held-most}
-use Rattle.record.specs.Kind.{messageOf, rowsHeld}
+use Rattle.layout.specs.Layout.{fieldsIn}
+use Rattle.layout.specs.KindLaws.{rows-held-most}
+use Rattle.layout.specs.Kind.{messageOf, rowsHeld}
 use Rattle.record.specs.RecordLaws.{read-found}
 use Rattle.record.specs.Record.{readRecord, readAs, zeroAfterRows}
 use borrow.Author.Needs.{needs}

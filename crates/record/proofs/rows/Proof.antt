@@ -1,13 +1,13 @@
 -- `record::rows` meets its contract: zero items past the end, else the rows of the part lent.
 use Rattle.endian.specs.Part.{part, whole}
 use Rattle.endian.specs.Number.{numberAt, value}
-use Rattle.record.specs.Layout.{rowsOf, itemsIn, itemIn}
+use Rattle.layout.specs.Layout.{rowsOf, itemsIn, itemIn}
 use Prim.Native.Nat.{ℕ, _*_, _+_}
 use lib.ListN.{length, take, drop}
 use native.Mathlib.Omega.{arith}
 use mathlib.Core.Path.{_≡_, refl, sym, ap, _∙_}
 use denote.Ref.{now}
-use Rattle.record.specs.LayoutLaws.{record-none, length-record-of, record-lent, record-back, with-record-none}
+use Rattle.record.specs.RecordLaws.{record-none, length-record-of, record-lent, record-back, with-record-none}
 use borrow.Author.Needs.{needs}
 use Rattle.record.proofs.rows.Statement.{statement}
 use Rattle.record.proofs.rows.Tie as tie
@@ -35,7 +35,7 @@ part-read-rows-end : tie.Need-part-read-rows-end
 part-read-rows-end c = search needs
 
 read-rows-requires : tie.Need-read-rows-requires
-read-rows-requires c κs = let a = c .before .before .before .args in rw (record-lent (now (a .s)) (a .i) (omega arith)) (length-record-of (now (a .s)) (a .i) (omega arith))
+read-rows-requires c κs = search needs
 
 returns-2 : tie.Need-returns-2
 returns-2 c = let a = c .before .before .before .before .args in c .read-rows .ensures ∙ ap rowsOf (record-lent (now (a .s)) (a .i) (omega arith))

@@ -1,13 +1,17 @@
 -- `record::write` meets its contract: nothing past the end, else the part lent comes back as the record.
-use Rattle.record.specs.KindLaws.{rows-held-most}
-use Rattle.record.specs.Kind.{rowsHeld}
-use Rattle.record.specs.Record.{recordBytes, heldRows}
+use Rattle.record.specs.Layout.{recordOf}
+use mathlib.Core.List.{List}
+use Rattle.endian.specs.PartLaws.{with-all}
+use Rattle.layout.specs.LayoutLaws.{length-layout, length-padded}
+use Rattle.layout.specs.Layout.{recordSize, layoutBytes}
+use Rattle.layout.specs.Kind.{heldRows, fieldsOf, rowsHeld}
+use Rattle.record.specs.Record.{recordBytes}
 use Prim.Native.Nat.{ℕ, _*_, _+_}
 use lib.ListN.{length, take, drop}
 use native.Mathlib.Omega.{arith}
 use mathlib.Core.Path.{_≡_, refl, sym, ap, _∙_}
 use denote.Ref.{now}
-use Rattle.record.specs.LayoutLaws.{record-none, length-record-of, record-lent, record-back, with-record-none}
+use Rattle.record.specs.RecordLaws.{record-none, length-record-of, record-lent, record-back, with-record-none}
 use borrow.Author.Needs.{needs}
 use Rattle.record.proofs.write.Statement.{statement}
 use Rattle.record.proofs.write.Tie as tie
@@ -18,11 +22,8 @@ returns c = let a = c .before .before .args in sym (with-record-none (now (a .s)
 mul-a : tie.Need-mul-a
 mul-a c = search needs
 
-rows-held-requires : tie.Need-rows-held-requires
-rows-held-requires c κs = search needs
-
-padded-rows-requires : tie.Need-padded-rows-requires
-padded-rows-requires c κs = omega (arith, c .rows-held .ensures, rows-held-most (c .before .before .before .args .envelope .message) (c .before .before .before .args .n))
+held-rows-requires : tie.Need-held-rows-requires
+held-rows-requires c κs = search needs
 
 fields-of-requires : tie.Need-fields-of-requires
 fields-of-requires c κs = search needs
@@ -40,14 +41,14 @@ part-write-record-end : tie.Need-part-write-record-end
 part-write-record-end c = search needs
 
 write-record-requires : tie.Need-write-record-requires
-write-record-requires c κs = let a = c .before .before .before .before .before .before .args in rw (record-lent (now (a .s)) (a .i) (omega arith)) (length-record-of (now (a .s)) (a .i) (omega arith))
+write-record-requires c κs = search needs
 
 same-length : tie.Need-same-length
 same-length c = search needs
 
 returns-2 : tie.Need-returns-2
 unfolding recordBytes heldRows
-returns-2 c = let a = c .before .before .before .before .before .before .before .before .before .args in rw (c .before .before .write-record .ensures, c .before .before .before .before .fields-of .ensures, c .before .before .before .before .before .padded-rows .ensures, c .before .before .before .before .before .before .rows-held .ensures) (record-back (now (a .s)) (a .i) _ (omega arith))
+returns-2 c = let a = c .before .before .before .before .before .before .before .before .args in let whole : List ℕ = layoutBytes (a .next) (fieldsOf (a .envelope)) (heldRows (a .envelope .message) (a .n) (a .rows)) in let long : length whole ≡ 272 = length-layout (a .next) (fieldsOf (a .envelope)) (heldRows (a .envelope .message) (a .n) (a .rows)) (length-padded 15 (take (rowsHeld (a .envelope .message) (a .n)) (a .rows))) in rw (c .before .before .write-record .ensures, c .before .before .before .before .fields-of .ensures, c .before .before .before .before .before .held-rows .ensures, record-lent (now (a .s)) (a .i) (omega arith), with-all 272 (recordOf (now (a .s)) (a .i)) whole (length-record-of (now (a .s)) (a .i) (omega arith)) long) (record-back (now (a .s)) (a .i) whole (omega arith))
 
 pub write-spec : {M : Type 1} → statement M
 write-spec =
@@ -55,8 +56,7 @@ write-spec =
     (tie.spec
     returns
     mul-a
-    rows-held-requires
-    padded-rows-requires
+    held-rows-requires
     fields-of-requires
     add-write-record
     sub-write-record

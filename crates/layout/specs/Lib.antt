@@ -1,0 +1,4 @@
+pub mod Layout
+pub mod LayoutLaws
+pub mod Kind
+pub mod KindLaws
