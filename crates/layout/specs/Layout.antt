@@ -4,12 +4,14 @@
 --    16-23 index; 24-31 tag; 32-271 fifteen rows of index and tag"
 use Prim.Native.Nat.{ℕ, zero, suc, _+_, _-_, _*_, _/_, _%_}
 use mathlib.Core.List.{List, [], _∷_, _++_}
-use lib.ListN.{getD}
+use lib.ListN.{getD, take}
 use Rattle.item.specs.Maxima.{maxNodes, tagSize}
 use Rattle.item.specs.Item.{zeroItem}
 use Rattle.item.specs.declared.Item.{Item}
+use Rattle.message.specs.declared.Message.{Message}
+use Rattle.kinds.specs.Kind.{rowsHeld}
 use Rattle.endian.specs.Number.{bytes, numberAt}
-use Rattle.layout.specs.declared.kind.Fields.{Fields}
+use Rattle.kinds.specs.declared.Fields.{Fields}
 
 -- "240 records of 272 bytes"
 abbrev pub recordSize : ℕ
@@ -108,3 +110,7 @@ rowsOf r = itemsIn maxNodes r rowsAt
 -- "Records are chained by a next index"
 unfoldable pub nextOf : List ℕ → ℕ
 nextOf r = numberAt 2 r nextAt
+
+-- the rows that a record of this message holds: "n of them, then zeros"
+unfoldable pub heldRows : Message → ℕ → List Item → List Item
+heldRows m n rows = padded maxNodes (take (rowsHeld m n) rows)

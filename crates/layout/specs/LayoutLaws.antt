@@ -14,7 +14,7 @@ use Rattle.endian.specs.Part.{withPart}
 use Rattle.endian.specs.PartLaws.{with-joined, sets-is}
 use Rattle.endian.specs.Number.{bytes, withNumber}
 use Rattle.endian.specs.NumberLaws.{length-bytes}
-use Rattle.layout.specs.declared.kind.Fields.{Fields}
+use Rattle.kinds.specs.declared.Fields.{Fields}
 use Rattle.layout.specs.Layout.{recordSize, nextAt, kindAt, addressAt, incarnationAt, otherAt, attemptAt, itemAt, rowsAt, indexSize, rowSize, fieldsSize, itemBytes, addressByte, fieldBytes, rowsBytes, padded, itemIn, itemsIn, rowsOf, layoutBytes}
 
 -- the last row ends where the record does

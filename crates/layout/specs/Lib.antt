@@ -1,4 +1,2 @@
 pub mod Layout
 pub mod LayoutLaws
-pub mod Kind
-pub mod KindLaws

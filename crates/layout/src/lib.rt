@@ -1,22 +1,19 @@
-// The bytes of one record, as a slice of its own: where each field stands, read and written, and which fields each
-// kind of message uses. Everything is proved, no public function has a `requires`, and each gives what one definition
-// of specs/ says. In a slice that is too short a field reads as 0, and a record is not written.
-pub mod kind;
-
+// The bytes of one record, as a slice of its own: where each field stands, read and written. Everything is proved, no
+// public function has a `requires`, and each gives what one definition of specs/ says. In a slice that is too short a
+// field reads as 0, and a record is not written.
 use item::Attempt;
 use item::Incarnation;
 use item::Index;
 use item::Item;
 use item::Tag;
-use kind::Fields;
+use kinds::Fields;
 use message::Message;
 ghost use mathlib.Core.Path.{_≡_};
 ghost use Prim.Native.Nat.{_+_, _*_, _≤_};
 ghost use lib.ListN.{length, getD, take};
 ghost use Rattle.item.specs.Maxima.{maxNodes};
 ghost use Rattle.endian.specs.Part.{withPart};
-ghost use Rattle.layout.specs.Layout.{recordSize, nextAt, kindAt, rowsAt, fieldsSize, rowSize, itemBytes, addressByte, fieldBytes, rowsBytes, layoutBytes, padded, itemIn, fieldsIn, rowsOf};
-ghost use Rattle.layout.specs.Kind.{heldRows};
+ghost use Rattle.layout.specs.Layout.{recordSize, nextAt, kindAt, rowsAt, fieldsSize, rowSize, itemBytes, addressByte, fieldBytes, rowsBytes, layoutBytes, padded, itemIn, fieldsIn, rowsOf, heldRows};
 
 // The bytes of a record.
 pub const SIZE: usize = 272;
@@ -165,7 +162,7 @@ pub fn held_rows(
 ) -> [Item; item::MAX_NODES]
     ensures { λ r. ⌜ r ≡ heldRows message n rows ⌝ }
 {
-    padded_rows(rows, kind::rows_held(message, n))
+    padded_rows(rows, kinds::rows_held(message, n))
 }
 
 // The record becomes next, the fields and the rows; a slice shorter than a record stays.

@@ -9,14 +9,14 @@ use Rattle.message.specs.declared.Message.{Message}
 use Rattle.message.specs.declared.Envelope.{Envelope}
 use Rattle.endian.specs.Number.{withNumber}
 use Rattle.endian.specs.Zero.{zeros, allZero}
-use Rattle.layout.specs.declared.kind.Fields.{Fields}
-use Rattle.layout.specs.declared.kind.Known.{Known}
-use Rattle.layout.specs.declared.kind.Known.the-variants as known
+use Rattle.kinds.specs.declared.Fields.{Fields}
+use Rattle.kinds.specs.declared.Known.{Known}
+use Rattle.kinds.specs.declared.Known.the-variants as known
 use Rattle.record.specs.declared.Reading.{Reading}
 use Rattle.record.specs.declared.Reading.the-variants.{Found, Fault}
 use Rattle.layout.specs.Layout.{recordSize, rowsAt, rowSize, nextAt, kindAt, fieldsIn, layoutBytes}
-use Rattle.layout.specs.Kind.{fieldsOf, messageOf, rowsHeld}
-pub use Rattle.layout.specs.Kind.{heldRows}
+use Rattle.kinds.specs.Kind.{fieldsOf, messageOf, rowsHeld}
+pub use Rattle.layout.specs.Layout.{heldRows}
 
 -- the bytes of a record that holds a message, for a group of n
 unfoldable pub recordBytes : ℕ → ℕ → Envelope → List Item → List ℕ

@@ -10,11 +10,11 @@ use Rattle.endian.specs.PartLaws.{part-none, length-part, lent, put-back, with-
 use Rattle.record.specs.Chunk.{chunk, withChunk}
 use Rattle.record.specs.Layout.{recordOf, withRecord}
 use Rattle.message.specs.declared.Message.{Message}
-use Rattle.layout.specs.declared.kind.Fields.{Fields}
-use Rattle.layout.specs.declared.kind.Known.the-variants as known
+use Rattle.kinds.specs.declared.Fields.{Fields}
+use Rattle.kinds.specs.declared.Known.the-variants as known
 use Rattle.record.specs.declared.Reading.the-variants.{Found}
 use Rattle.layout.specs.Layout.{recordSize, fieldsIn}
-use Rattle.layout.specs.Kind.{messageOf}
+use Rattle.kinds.specs.Kind.{messageOf}
 use Rattle.record.specs.Record.{readRecord, readAs, zeroAfterRows, envelopeOf}
 
 -- a record whose fields are a message, with zeros after its rows

@@ -24,14 +24,14 @@ use Rattle.endian.specs.Number.{value, bytes, numberAt, AreBytes}
 use Rattle.endian.specs.NumberLaws.{length-bytes, value-bytes, number-again}
 use Rattle.endian.specs.Zero.{zeros, allZero}
 use Rattle.endian.specs.ZeroLaws.{both, all-zero-append, all-zero-is}
-use Rattle.layout.specs.declared.kind.Fields.{Fields}
-use Rattle.layout.specs.declared.kind.Known.{Known}
-use Rattle.layout.specs.declared.kind.Known.the-variants as known
+use Rattle.kinds.specs.declared.Fields.{Fields}
+use Rattle.kinds.specs.declared.Known.{Known}
+use Rattle.kinds.specs.declared.Known.the-variants as known
 use Rattle.record.specs.declared.Reading.{Reading}
 use Rattle.record.specs.declared.Reading.the-variants.{Found, Fault}
-use Rattle.layout.specs.Layout.{recordSize, nextAt, kindAt, addressAt, incarnationAt, otherAt, attemptAt, itemAt, rowsAt, indexSize, rowSize, fieldsSize, itemBytes, addressByte, fieldBytes, rowsBytes, padded, itemIn, fieldsIn, itemsIn, rowsOf, nextOf}
+use Rattle.layout.specs.Layout.{recordSize, nextAt, kindAt, addressAt, incarnationAt, otherAt, attemptAt, itemAt, rowsAt, indexSize, rowSize, fieldsSize, itemBytes, addressByte, fieldBytes, rowsBytes, padded, itemIn, fieldsIn, itemsIn, rowsOf, nextOf, heldRows}
 use Rattle.layout.specs.LayoutLaws.{length-item, length-fields, length-rows, length-padded}
-use Rattle.layout.specs.Kind.{kindOf, otherOf, attemptOf, itemOf, noIncarnation, filled, fieldsOf, noWrite, messageOf, rowsHeld, heldRows}
+use Rattle.kinds.specs.Kind.{kindOf, otherOf, attemptOf, itemOf, noIncarnation, filled, fieldsOf, noWrite, messageOf, rowsHeld}
 use Rattle.record.specs.Record.{recordBytes, envelopeOf, zeroAfterRows, readAs, readRecord}
 use Rattle.record.specs.RecordLaws.{read-found}
 

@@ -2,7 +2,7 @@
 // public function has a `requires`, and each gives what one definition of specs/ says. A record that does not lie
 // whole within the slice reads as nothing and is not written, whatever number is handed in.
 use item::Item;
-use layout::kind::Known;
+use kinds::Known;
 use message::Envelope;
 ghost use mathlib.Core.Path.{_≡_};
 ghost use Prim.Native.Nat.{_≤_};
@@ -36,10 +36,10 @@ fn read_record(r: &[u8], n: usize) -> Reading
     ensures { λ a. ⌜ a ≡ readRecord n (now (r .entry)) ⌝ }
 {
     let fields = layout::read_fields(r);
-    let Known::Known(message) = layout::kind::message_of(fields) else {
+    let Known::Known(message) = kinds::message_of(fields) else {
         return Reading::Fault;
     };
-    let from = layout::ROWS_AT + layout::kind::rows_held(message, n) * layout::ROW_SIZE;
+    let from = layout::ROWS_AT + kinds::rows_held(message, n) * layout::ROW_SIZE;
     if !zero_from(r, from) {
         return Reading::Fault;
     }
@@ -92,7 +92,7 @@ pub fn write(
     let a = i * SIZE;
     let message = envelope.message;
     let held = layout::held_rows(message, n, rows);
-    let fields = layout::kind::fields_of(envelope);
+    let fields = kinds::fields_of(envelope);
     layout::write_record(&mut s[a..a + SIZE], next, fields, held);
 }
 

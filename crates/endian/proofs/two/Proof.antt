@@ -24,7 +24,7 @@ wide-requires-2 : tie.Need-wide-requires-2
 wide-requires-2 c κs = search needs
 
 mul-result : tie.Need-mul-result
-mul-result c = omega (arith, c .before .shared-slice-known3 .given (c .before .before .before .before .before .args .at + 1), c .wide2 .ensures)
+mul-result c = omega (arith, c .before .shared-slice-known3 .given (c .before .before .before .before .before .args .at + 1), c .before .shared-slice-known3 .given (c .before .before .before .before .before .args .at), c .wide2 .ensures)
 
 add-result : tie.Need-add-result
 add-result c = omega (arith, c .before .shared-slice-known3 .given (c .before .before .before .before .before .args .at + 1), c .before .shared-slice-known3 .given (c .before .before .before .before .before .args .at), c .wide2 .ensures, c .before .before .wide .ensures)

@@ -1,7 +1,7 @@
 -- `layout::held_rows` meets its contract: as many rows as the kind has, padded.
 use native.Mathlib.Omega.{arith}
-use Rattle.layout.specs.KindLaws.{rows-held-most}
-use Rattle.layout.specs.Kind.{heldRows}
+use Rattle.kinds.specs.KindLaws.{rows-held-most}
+use Rattle.layout.specs.Layout.{heldRows}
 use borrow.Author.Needs.{needs}
 use Rattle.layout.proofs.held_rows.Statement.{statement}
 use Rattle.layout.proofs.held_rows.Tie as tie

@@ -8,8 +8,8 @@ use Rattle.endian.specs.Zero.{allZero}
 use Rattle.item.specs.Tests.{refuted, granted}
 use borrow.Author.Tests.{eq-eqb}
 use Rattle.layout.specs.Layout.{fieldsIn}
-use Rattle.layout.specs.KindLaws.{rows-held-most}
-use Rattle.layout.specs.Kind.{messageOf, rowsHeld}
+use Rattle.kinds.specs.KindLaws.{rows-held-most}
+use Rattle.kinds.specs.Kind.{messageOf, rowsHeld}
 use Rattle.record.specs.RecordLaws.{read-found}
 use Rattle.record.specs.Record.{readRecord, readAs, zeroAfterRows}
 use borrow.Author.Needs.{needs}

@@ -3,8 +3,8 @@ use Rattle.record.specs.Layout.{recordOf}
 use mathlib.Core.List.{List}
 use Rattle.endian.specs.PartLaws.{with-all}
 use Rattle.layout.specs.LayoutLaws.{length-layout, length-padded}
-use Rattle.layout.specs.Layout.{recordSize, layoutBytes}
-use Rattle.layout.specs.Kind.{heldRows, fieldsOf, rowsHeld}
+use Rattle.layout.specs.Layout.{layoutBytes, heldRows}
+use Rattle.kinds.specs.Kind.{fieldsOf, rowsHeld}
 use Rattle.record.specs.Record.{recordBytes}
 use Prim.Native.Nat.{ℕ, _*_, _+_}
 use lib.ListN.{length, take, drop}
