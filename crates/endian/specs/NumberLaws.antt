@@ -8,7 +8,6 @@ use native.Mathlib.Numerals.{add-one}
 use native.Mathlib.Nat.{suc-add, zero-add, pow-suc, pow-succ', mul-assoc, mod-add-div, mod-mod, mod-lt, mod-eq-of-lt, div-eq-of-lt, div-lt-iff-lt-mul, div-div-eq-div-mul, div-one, add-mul-div-left, add-mul-mod-self-left, mul-add-mod-self-left}
 use lib.ListN.{length, take, drop, getD, set, length-take, take-append-drop, List·getD-eq-default}
 use lib.Seq.{take-add, drop-drop, drop-cons, getD-take, getD-drop}
-use Rattle.endian.specs.Part.{part, withPart}
 use Rattle.endian.specs.PartLaws.{by-order, part-is, part-none, length-middle, length-with, part-with, with-none, with-joined, sets-is}
 use Rattle.endian.specs.Number.{value, bytes, numberAt, withNumber, AreBytes}
 

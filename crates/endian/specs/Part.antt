@@ -1,8 +1,8 @@
 -- A part of a list of bytes: the elements from a place on, as many as are asked for. What a function does with a place
 -- that does not lie within its slice is said here once: there is no part, and nothing is written.
 use Prim.Native.Nat.{ℕ, _+_}
-use mathlib.Core.Bool.{Bool, true, false, cond}
-use mathlib.Core.List.{List, [], _∷_, _++_}
+use mathlib.Core.Bool.{cond}
+use mathlib.Core.List.{List, [], _++_}
 use lib.Dec.{leb, eqb}
 use lib.ListN.{length, take, drop}
 

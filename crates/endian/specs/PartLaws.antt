@@ -12,7 +12,7 @@ use lib.Dec.{leb}
 use borrow.Author.Tests.{eq-eqb, ne-eqb, le-leb, lt-leb, leb-true, leb-false, not-true, not-false}
 use borrow.Rule.Slice.PartMut.{putMid}
 use lib.ListN.{length, take, drop, length-append, length-take, length-drop, take-append-drop}
-use lib.Seq.{length-take-le, take-at, drop-at, take-append-le, take-take, drop-drop, take-all, take-nil, sets, sets-eq}
+use lib.Seq.{length-take-le, take-at, drop-at, take-take, drop-drop, take-all, take-nil, sets, sets-eq}
 use Rattle.endian.specs.Part.{whole, part, withPart}
 
 -- a proof by cases: a ≤ b or not

@@ -1,14 +1,14 @@
 -- Laws of zero bytes: the test says what it should, and goes with bitwise or.
 use Prim.Native.Nat.{ℕ, zero, suc, _+_, _≤_, _<_}
-use mathlib.Core.Path.{_≡_, refl, sym, ap, _∙_}
+use mathlib.Core.Path.{_≡_, refl, sym, _∙_}
 use mathlib.Core.Bool.{Bool, true, false, _&&_, and-assoc, and-true}
 use mathlib.Core.List.{List, [], _∷_, _++_}
 use native.Mathlib.Omega.{arith}
 use native.Mathlib.Numerals.{add-one}
-use borrow.Author.Tests.{eqb-true, eq-eqb, ne-eqb}
+use borrow.Author.Tests.{eqb-true, ne-eqb}
 use lib.Dec.{eqb}
 use lib.Bits.{bitAnd, bitOr, and-le-r, or-add-and}
-use lib.ListN.{length, take, getD, replicate, length-replicate}
+use lib.ListN.{length, take, getD, length-replicate}
 use lib.Seq.{take-suc}
 use Rattle.endian.specs.Zero.{zeros, allZero}
 

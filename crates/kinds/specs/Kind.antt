@@ -1,7 +1,7 @@
 -- The six kinds of message (document 01: "1 Store, 2 Stored, 3 Confirm, 4 Confirmed, 5 Fetch, 6 Table") and which fields
 -- of a record each uses: "'Other' is .. in Store and Fetch 0"; "Fetch and Table have attempt, index and tag 0".
 use Prim.Native.Nat.{ℕ, min}
-use mathlib.Core.Bool.{Bool, true, false, _&&_, cond}
+use mathlib.Core.Bool.{Bool, _&&_, cond}
 use lib.Dec.{eqb}
 use Rattle.item.specs.Maxima.{maxNodes}
 use Rattle.item.specs.Counter.{sameIncarnation, sameAttempt}

@@ -2,13 +2,12 @@
 -- same chunks.
 use Prim.Native.Nat.{ℕ, zero, suc, _+_, _*_, _≤_, _<_}
 use mathlib.Core.Path.{_≡_, refl, sym, ap, _∙_}
-use mathlib.Core.Logic.{_≢_, _⊎_, ⊎-elim, inl, inr}
+use mathlib.Core.Logic.{_≢_, inl, inr}
 use mathlib.Core.List.{List, [], _∷_, _++_, append-assoc}
 use native.Mathlib.Omega.{arith}
 use native.Mathlib.Nat.{suc-mul, zero-mul, mul-le-mul-right, zero-add, add-comm, le-refl, not-suc-le-zero, le-of-suc-le-suc}
-use lib.ListN.{length, take, drop, getD, set, length-append, length-drop, take-append-drop}
-use lib.Seq.{drop-drop, take-take, take-add, take-at, drop-at, length-take-le}
-use Rattle.endian.specs.Part.{part, withPart}
+use lib.ListN.{length, take, drop, getD, set, length-drop}
+use lib.Seq.{drop-drop, take-add, take-at, drop-at, length-take-le}
 use Rattle.endian.specs.PartLaws.{by-order, part-is, part-with, part-with-other, length-part, length-with, with-is}
 use Rattle.record.specs.Chunk.{chunk, withChunk, cut}
 

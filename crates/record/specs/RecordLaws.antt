@@ -1,7 +1,7 @@
 -- Laws of one record.
 use Prim.Native.Nat.{ℕ, _+_, _-_, _*_, _≤_, _<_}
-use mathlib.Core.Path.{_≡_, refl, sym, ap, _∙_}
-use mathlib.Core.Bool.{Bool, true, false}
+use mathlib.Core.Path.{_≡_}
+use mathlib.Core.Bool.{true}
 use mathlib.Core.List.{List, []}
 use borrow.Author.Tests.{eq-eqb}
 use borrow.Rule.Slice.PartMut.{putMid}

@@ -2,14 +2,14 @@
 -- number and row.
 use Prim.Native.Nat.{ℕ, zero, suc, _+_, _*_, _/_, _%_, _^_, _≤_, _<_}
 use mathlib.Core.Path.{_≡_, refl, sym, ap, _∙_}
-use mathlib.Core.Bool.{Bool, true, false, _&&_, cond}
+use mathlib.Core.Bool.{true, _&&_}
 use mathlib.Core.List.{List, [], _∷_, _++_, append-assoc}
 use native.Mathlib.Omega.{arith}
-use native.Mathlib.Nat.{suc-mul, zero-mul, add-zero, mod-eq-of-lt}
-use borrow.Author.Tests.{eqb-true, eq-eqb}
+use native.Mathlib.Nat.{add-zero}
+use borrow.Author.Tests.{eqb-true}
 use lib.Dec.{eqb}
 use lib.ListN.{length, take, drop, getD, length-append, length-drop, replicate, replicate-append-replicate, drop-of-length-le}
-use lib.Seq.{drop-at, drop-cons, drop-nil, drop-append-add, drop-drop}
+use lib.Seq.{drop-at, drop-cons, drop-nil, drop-drop}
 use Rattle.item.specs.Maxima.{maxNodes, tagSize}
 use Rattle.item.specs.Counter.{sameIncarnation, sameAttempt}
 use Rattle.item.specs.Item.{zeroItem, sameItem, tagsAgree}
@@ -29,7 +29,7 @@ use Rattle.kinds.specs.declared.Known.{Known}
 use Rattle.kinds.specs.declared.Known.the-variants as known
 use Rattle.record.specs.declared.Reading.{Reading}
 use Rattle.record.specs.declared.Reading.the-variants.{Found, Fault}
-use Rattle.layout.specs.Layout.{recordSize, nextAt, kindAt, addressAt, incarnationAt, otherAt, attemptAt, itemAt, rowsAt, indexSize, rowSize, fieldsSize, itemBytes, addressByte, fieldBytes, rowsBytes, padded, itemIn, fieldsIn, itemsIn, rowsOf, nextOf, heldRows}
+use Rattle.layout.specs.Layout.{recordSize, kindAt, addressAt, incarnationAt, otherAt, attemptAt, itemAt, rowsAt, indexSize, rowSize, itemBytes, addressByte, fieldBytes, rowsBytes, padded, itemIn, fieldsIn, itemsIn, rowsOf, nextOf, heldRows}
 use Rattle.layout.specs.LayoutLaws.{length-item, length-fields, length-rows, length-padded}
 use Rattle.kinds.specs.Kind.{kindOf, otherOf, attemptOf, itemOf, noIncarnation, filled, fieldsOf, noWrite, messageOf, rowsHeld}
 use Rattle.record.specs.Record.{recordBytes, envelopeOf, zeroAfterRows, readAs, readRecord}

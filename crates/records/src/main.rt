@@ -14,10 +14,15 @@ use message::Message;
 const NODES: usize = 5;
 
 const NEXT: u16 = 0xa1a0;
+
 const INCARNATION: u32 = 0xa7a6a5a4;
+
 const OTHER: u32 = 0xabaaa9a8;
+
 const ATTEMPT: u32 = 0xafaeadac;
+
 const INDEX: u64 = 0xb7b6b5b4b3b2b1b0;
+
 const TAG: u64 = 0xbfbebdbcbbbab9b8;
 
 fn item(index: u64, tag: u64) -> Item {
@@ -62,9 +67,39 @@ fn fill(s: &mut [u8]) {
     let attempt = Attempt(ATTEMPT);
     let item = item(INDEX, TAG);
     put(s, 0, 9, 1, Message::Store { attempt, item });
-    put(s, 1, 10, 2, Message::Stored { other, attempt, item });
-    put(s, 2, 11, 3, Message::Confirm { other, attempt, item });
-    put(s, 3, 12, 4, Message::Confirmed { other, attempt, item });
+    put(
+        s,
+        1,
+        10,
+        2,
+        Message::Stored {
+            other,
+            attempt,
+            item,
+        },
+    );
+    put(
+        s,
+        2,
+        11,
+        3,
+        Message::Confirm {
+            other,
+            attempt,
+            item,
+        },
+    );
+    put(
+        s,
+        3,
+        12,
+        4,
+        Message::Confirmed {
+            other,
+            attempt,
+            item,
+        },
+    );
     put(s, 4, 13, 5, Message::Fetch);
     put(s, 5, 14, 6, Message::Table { other });
 }

@@ -5,7 +5,7 @@ use Rattle.endian.specs.Zero.{zeros}
 use lib.ListN.{length, drop, set, length-set, drop-of-length-le}
 use borrow.Author.Fill.{fill-more}
 use mathlib.Core.List.{List, _++_, append-nil}
-use mathlib.Core.Path.{_≡_, refl, sym, ap, _∙_}
+use mathlib.Core.Path.{_≡_, refl, ap, _∙_}
 use Prim.Native.Nat.{ℕ, _≤_, _-_}
 use borrow.Author.Needs.{needs}
 use Rattle.endian.proofs.clear.Statement.{statement}

@@ -1,6 +1,5 @@
 -- `endian::eight` meets its contract: two numbers of half the width are one, by `number-joined`.
 use denote.Ref.{now}
-use native.Mathlib.Omega.{arith}
 use Rattle.endian.specs.NumberLaws.{number-joined}
 use borrow.Author.Needs.{needs}
 use Rattle.endian.proofs.eight.Statement.{statement}

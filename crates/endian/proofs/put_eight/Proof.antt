@@ -1,8 +1,6 @@
 -- `endian::put_eight` meets its contract: two numbers of half the width are one, by `with-number-joined`.
-use mathlib.Core.Path.{_∙_, ap}
 use denote.Ref.{now}
-use native.Mathlib.Omega.{arith}
-use Rattle.endian.specs.NumberLaws.{with-number-joined, length-with-number}
+use Rattle.endian.specs.NumberLaws.{with-number-joined}
 use borrow.Author.Needs.{needs}
 use Rattle.endian.proofs.put_eight.Statement.{statement}
 use Rattle.endian.proofs.put_eight.Tie as tie

@@ -1,5 +1,5 @@
 -- `layout::address_byte` meets its contract.
-use mathlib.Core.Path.{_≡_, refl, sym, ap, _∙_}
+use mathlib.Core.Path.{refl}
 use Rattle.layout.specs.Layout.{addressByte}
 use borrow.Author.Needs.{needs}
 use Rattle.layout.proofs.address_byte.Statement.{statement}

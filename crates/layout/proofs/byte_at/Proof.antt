@@ -1,7 +1,7 @@
 -- `layout::byte_at` meets its contract: 0 past the end.
 use lib.ListN.{List·getD-eq-default}
 use denote.Ref.{now}
-use mathlib.Core.Path.{_≡_, refl, sym, ap, _∙_}
+use mathlib.Core.Path.{sym}
 use borrow.Author.Needs.{needs}
 use Rattle.layout.proofs.byte_at.Statement.{statement}
 use Rattle.layout.proofs.byte_at.Tie as tie

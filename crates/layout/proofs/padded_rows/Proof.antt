@@ -2,15 +2,12 @@
 use Rattle.layout.proofs.Turns.{padded-start, padded-turn, padded-end, length-mapped}
 use Rattle.layout.specs.Layout.{padded}
 use lib.Seq.{length-take-le}
-use lib.ListN.{length, take, drop, set, length-set}
-use Rattle.item.specs.declared.Item.{Item}
-use mathlib.Core.List.{List, _++_}
-use mathlib.Core.Path.{_≡_, refl, sym, ap, _∙_}
-use denote.Ref.{now}
+use lib.ListN.{length, take, drop, length-set}
+use mathlib.Core.List.{_++_}
+use mathlib.Core.Path.{_≡_, ap, _∙_}
 use native.Mathlib.Omega.{arith}
-use Rattle.item.specs.Item.{zeroItem}
 use Rattle.item.specs.Maxima.{maxNodes}
-use Prim.Native.Nat.{ℕ, _+_, _-_, _*_, _≤_, _<_}
+use Prim.Native.Nat.{ℕ, _+_, _-_, _≤_}
 use borrow.Author.Needs.{needs}
 use Rattle.layout.proofs.padded_rows.Statement.{statement}
 use Rattle.layout.proofs.padded_rows.Tie as tie

@@ -1,13 +1,10 @@
 -- `layout::read_rows` meets its contract. The invariant: each row passed is what stands at its place.
-use Rattle.layout.proofs.Turns.{Passed, passed-none, passed-turn, passed-all, length-mapped}
-use Rattle.layout.specs.Layout.{rowsAt, rowSize, itemIn}
-use lib.ListN.{length, set, length-set, length-replicate}
-use mathlib.Core.Path.{_≡_, refl, sym, ap, _∙_}
-use denote.Ref.{now}
+use Rattle.layout.proofs.Turns.{Passed, passed-none, passed-turn, passed-all}
+use lib.ListN.{length, length-set}
+use mathlib.Core.Path.{_≡_, refl}
 use native.Mathlib.Omega.{arith}
-use Rattle.item.specs.Item.{zeroItem}
 use Rattle.item.specs.Maxima.{maxNodes}
-use Prim.Native.Nat.{ℕ, _+_, _-_, _*_, _≤_, _<_}
+use Prim.Native.Nat.{_-_, _≤_}
 use borrow.Author.Needs.{needs}
 use Rattle.layout.proofs.read_rows.Statement.{statement}
 use Rattle.layout.proofs.read_rows.Tie as tie

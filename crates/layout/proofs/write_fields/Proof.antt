@@ -1,8 +1,8 @@
 -- `layout::write_fields` meets its contract: parts that meet are one, by `with-fields`.
 use Rattle.endian.specs.NumberLaws.{length-with-number}
 use Rattle.endian.specs.PartLaws.{length-with}
-use lib.ListN.{length, length-set}
-use mathlib.Core.Path.{_≡_, refl, sym, ap, _∙_}
+use lib.ListN.{length-set}
+use mathlib.Core.Path.{_∙_}
 use native.Mathlib.Omega.{arith}
 use denote.Ref.{now}
 use Rattle.layout.specs.Layout.{rowSize, itemAt, itemBytes}

@@ -1,8 +1,7 @@
 -- `layout::write_record` meets its contract: three groups that meet are the record, by `with-groups`.
 use Rattle.layout.proofs.Turns.{length-mapped}
-use lib.ListN.{length}
 use native.Mathlib.Omega.{arith}
-use mathlib.Core.Path.{_≡_, refl, sym, ap, _∙_}
+use mathlib.Core.Path.{sym}
 use denote.Ref.{now}
 use Rattle.endian.specs.PartLaws.{with-none}
 use Rattle.layout.specs.Layout.{recordSize}

@@ -1,7 +1,7 @@
 -- `layout::write_rows` meets its contract. The invariant: the rows passed are written, by `with-rows-more`.
 use Rattle.layout.proofs.Turns.{length-mapped}
 use Rattle.layout.specs.LayoutLaws.{length-item, with-rows-more}
-use Rattle.layout.specs.Layout.{recordSize, rowsAt, rowSize, itemBytes, rowsBytes}
+use Rattle.layout.specs.Layout.{recordSize, rowsAt, rowSize, rowsBytes}
 use Rattle.endian.specs.PartLaws.{length-with, with-nothing}
 use Rattle.endian.specs.Part.{withPart}
 use lib.Seq.{take-all}
@@ -11,9 +11,8 @@ use mathlib.Core.List.{List}
 use mathlib.Core.Path.{_≡_, refl, sym, ap, _∙_}
 use denote.Ref.{now}
 use native.Mathlib.Omega.{arith}
-use Rattle.item.specs.Item.{zeroItem}
 use Rattle.item.specs.Maxima.{maxNodes}
-use Prim.Native.Nat.{ℕ, _+_, _-_, _*_, _≤_, _<_}
+use Prim.Native.Nat.{ℕ, _-_, _*_, _≤_}
 use borrow.Author.Needs.{needs}
 use Rattle.layout.proofs.write_rows.Statement.{statement}
 use Rattle.layout.proofs.write_rows.Tie as tie

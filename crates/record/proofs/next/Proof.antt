@@ -2,12 +2,10 @@
 use Rattle.endian.specs.Part.{part, whole}
 use Rattle.endian.specs.Number.{numberAt, value}
 use Rattle.layout.specs.Layout.{nextOf}
-use Prim.Native.Nat.{ℕ, _*_, _+_}
-use lib.ListN.{length, take, drop}
 use native.Mathlib.Omega.{arith}
-use mathlib.Core.Path.{_≡_, refl, sym, ap, _∙_}
+use mathlib.Core.Path.{ap, _∙_}
 use denote.Ref.{now}
-use Rattle.record.specs.RecordLaws.{record-none, length-record-of, record-lent, record-back, with-record-none}
+use Rattle.record.specs.RecordLaws.{record-none, record-lent}
 use borrow.Author.Needs.{needs}
 use Rattle.record.proofs.next.Statement.{statement}
 use Rattle.record.proofs.next.Tie as tie

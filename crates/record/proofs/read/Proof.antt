@@ -1,11 +1,9 @@
 -- `record::read` meets its contract: no message past the end, else that of the part lent.
 use Rattle.record.specs.Record.{readRecord}
-use Prim.Native.Nat.{ℕ, _*_, _+_}
-use lib.ListN.{length, take, drop}
 use native.Mathlib.Omega.{arith}
-use mathlib.Core.Path.{_≡_, refl, sym, ap, _∙_}
+use mathlib.Core.Path.{ap, _∙_}
 use denote.Ref.{now}
-use Rattle.record.specs.RecordLaws.{record-none, length-record-of, record-lent, record-back, with-record-none}
+use Rattle.record.specs.RecordLaws.{record-none, length-record-of, record-lent}
 use borrow.Author.Needs.{needs}
 use Rattle.record.proofs.read.Statement.{statement}
 use Rattle.record.proofs.read.Tie as tie

@@ -1,15 +1,11 @@
 -- `record::read_record` meets its contract: the message of the fields, unless a byte after its rows is not 0.
-use Prim.Native.Nat.{ℕ, _*_, _+_}
-use lib.ListN.{length, drop}
+use lib.ListN.{length}
 use native.Mathlib.Omega.{arith}
-use mathlib.Core.Path.{_≡_, refl, sym, ap, _∙_}
+use mathlib.Core.Path.{sym, _∙_}
 use denote.Ref.{now}
-use Rattle.endian.specs.Zero.{allZero}
 use Rattle.item.specs.Tests.{refuted, granted}
 use borrow.Author.Tests.{eq-eqb}
-use Rattle.layout.specs.Layout.{fieldsIn}
 use Rattle.kinds.specs.KindLaws.{rows-held-most}
-use Rattle.kinds.specs.Kind.{messageOf, rowsHeld}
 use Rattle.record.specs.RecordLaws.{read-found}
 use Rattle.record.specs.Record.{readRecord, readAs, zeroAfterRows}
 use borrow.Author.Needs.{needs}

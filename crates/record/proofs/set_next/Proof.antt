@@ -1,11 +1,9 @@
 -- `record::set_next` meets its contract: nothing past the end, else the part lent comes back with its next.
 use Rattle.record.specs.Record.{withNext}
-use Prim.Native.Nat.{ℕ, _*_, _+_}
-use lib.ListN.{length, take, drop}
 use native.Mathlib.Omega.{arith}
-use mathlib.Core.Path.{_≡_, refl, sym, ap, _∙_}
+use mathlib.Core.Path.{sym}
 use denote.Ref.{now}
-use Rattle.record.specs.RecordLaws.{record-none, length-record-of, record-lent, record-back, with-record-none}
+use Rattle.record.specs.RecordLaws.{record-lent, record-back, with-record-none}
 use borrow.Author.Needs.{needs}
 use Rattle.record.proofs.set_next.Statement.{statement}
 use Rattle.record.proofs.set_next.Tie as tie

@@ -1,13 +1,9 @@
 -- `record::zero_after_next` meets its contract: false past the end, else the test of the part lent.
-use Rattle.endian.specs.Zero.{allZero}
-use borrow.Author.Tests.{eq-eqb}
 use Rattle.record.specs.Record.{zeroAfterNext}
-use Prim.Native.Nat.{ℕ, _*_, _+_}
-use lib.ListN.{length, take, drop}
 use native.Mathlib.Omega.{arith}
-use mathlib.Core.Path.{_≡_, refl, sym, ap, _∙_}
+use mathlib.Core.Path.{_∙_}
 use denote.Ref.{now}
-use Rattle.record.specs.RecordLaws.{record-none, length-record-of, record-lent, record-back, with-record-none}
+use Rattle.record.specs.RecordLaws.{record-none, length-record-of, record-lent}
 use borrow.Author.Needs.{needs}
 use Rattle.record.proofs.zero_after_next.Statement.{statement}
 use Rattle.record.proofs.zero_after_next.Tie as tie

@@ -1,11 +1,11 @@
 -- `record::zero_from` meets its contract: the part to the end is what is dropped to.
 use Rattle.endian.specs.Zero.{allZero}
 use lib.Seq.{take-all}
-use lib.ListN.{length, drop, take, length-drop}
+use lib.ListN.{length, drop, length-drop}
 use Prim.Native.Nat.{_-_}
 use native.Mathlib.Omega.{arith}
 use denote.Ref.{now}
-use mathlib.Core.Path.{_≡_, refl, sym, ap, _∙_}
+use mathlib.Core.Path.{ap, _∙_}
 use borrow.Author.Needs.{needs}
 use Rattle.record.proofs.zero_from.Statement.{statement}
 use Rattle.record.proofs.zero_from.Tie as tie
