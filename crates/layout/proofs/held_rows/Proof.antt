@@ -1,0 +1,20 @@
+-- `layout::held_rows` meets its contract: as many rows as the kind has, padded.
+use native.Mathlib.Omega.{arith}
+use Rattle.kinds.specs.KindLaws.{rows-held-most}
+use Rattle.layout.specs.Layout.{heldRows}
+use borrow.Author.Needs.{needs}
+use Rattle.layout.proofs.held_rows.Statement.{statement}
+use Rattle.layout.proofs.held_rows.Tie as tie
+
+rows-held-requires : tie.Need-rows-held-requires
+rows-held-requires c κs = search needs
+
+padded-rows-requires : tie.Need-padded-rows-requires
+padded-rows-requires c κs = omega (arith, c .rows-held .ensures, rows-held-most (c .before .args .message) (c .before .args .n))
+
+returns : tie.Need-returns
+unfolding heldRows
+returns c = rw (c .padded-rows .ensures, c .before .rows-held .ensures)
+
+pub held-rows-spec : {M : Type 1} → statement M
+held-rows-spec = tie.close (tie.spec rows-held-requires padded-rows-requires returns)
