@@ -1,0 +1,62 @@
+-- `merging::lowest_marked` meets its contract: at place i the answer is i and what the rows from i on give.
+use Rattle.merging.proofs.Marks.{lowest-here, lowest-next, lowest-none}
+use Rattle.merging.proofs.Lengths.{length-mapped}
+use Rattle.protocol.specs.Merge.{lowestMarked}
+use lib.ListN.{length, drop}
+use mathlib.Core.Path.{_≡_}
+use Prim.Native.Nat.{ℕ, _≤_, _-_, _+_}
+use native.Mathlib.Omega.{arith}
+use borrow.Author.Needs.{needs}
+use Rattle.merging.proofs.lowest_marked.Statement.{statement}
+use Rattle.merging.proofs.lowest_marked.Tie as tie
+
+abbrev Inv-loop : tie.InvT-loop
+Inv-loop rows i₀ i = (i ≤ 15) × (length rows ≡ 15) × (lowestMarked rows ≡ i + lowestMarked (drop i rows))
+
+abbrev μ-loop : tie.MeasureT-loop
+μ-loop rows i₀ i = 15 - i
+
+loop-holds : tie.Need-loop-holds Inv-loop μ-loop
+loop-holds c = (omega arith, search length-mapped, omega arith)
+
+mul-if2 : tie.Need-mul-if2 Inv-loop μ-loop
+mul-if2 c = search needs
+
+element-copy-out-if2 : tie.Need-element-copy-out-if2 Inv-loop μ-loop
+element-copy-out-if2 c = search needs
+
+add-i : tie.Need-add-i Inv-loop μ-loop
+add-i c = search needs
+
+loop-less : tie.Need-loop-less Inv-loop μ-loop
+loop-less c = search needs
+
+loop-again : tie.Need-loop-again Inv-loop μ-loop
+loop-again c = let rows = c .before .before .before .args .t1 in
+    let i = c .before .before .loop .i in
+    (omega arith, search needs, omega (arith, lowest-next rows i (omega arith) (c .if2 .left)))
+
+returns : tie.Need-returns Inv-loop μ-loop
+returns c = let rows = c .before .before .args .t1 in
+    let i = c .before .loop .i in
+    omega (arith, lowest-none rows i (omega arith))
+
+returns-2 : tie.Need-returns-2 Inv-loop μ-loop
+returns-2 c = let rows = c .before .before .before .args .t1 in
+    let i = c .before .before .loop .i in
+    omega (arith, lowest-here rows i (omega arith) (c .if2 .taken))
+
+pub lowest-marked-spec : {M : Type 1} → statement M
+lowest-marked-spec =
+    tie.close
+    (tie.spec
+    Inv-loop
+    μ-loop
+    loop-holds
+    mul-if2
+    element-copy-out-if2
+    add-i
+    loop-less
+    loop-again
+    returns
+    returns-2)

@@ -1,0 +1,84 @@
+-- `merging::merge_rows` meets its contract: after i turns the first i rows are merged, and the others as they were.
+use Rattle.merging.proofs.Merge.{mergedTo, merged-turn, merged-all}
+use Rattle.merging.proofs.Lengths.{length-mapped}
+use Rattle.item.specs.Row.{zeroRow}
+use Rattle.item.specs.Item.{zeroItem}
+use lib.ListN.{length}
+use mathlib.Core.Path.{_≡_, refl}
+use Prim.Native.Nat.{ℕ, _≤_, _-_}
+use native.Mathlib.Omega.{arith}
+use borrow.Author.Needs.{needs}
+use Rattle.merging.proofs.merge_rows.Statement.{statement}
+use Rattle.merging.proofs.merge_rows.Tie as tie
+
+abbrev Inv-loop : tie.InvT-loop
+Inv-loop first items next₀ i₀ next i =
+    (i ≤ 15) × (length next₀ ≡ 15) × (length items ≡ 15) × (next ≡ mergedTo first i next₀ items)
+
+abbrev μ-loop : tie.MeasureT-loop
+μ-loop first items next₀ i₀ next i = 15 - i
+
+loop-holds : tie.Need-loop-holds Inv-loop μ-loop
+unfolding mergedTo
+loop-holds c = (omega arith, search length-mapped, search length-mapped, refl)
+
+mul-row : tie.Need-mul-row Inv-loop μ-loop
+mul-row c = search needs
+
+array-copy-out-row : tie.Need-array-copy-out-row Inv-loop μ-loop
+array-copy-out-row c = search needs
+
+mul-item : tie.Need-mul-item Inv-loop μ-loop
+mul-item c = search needs
+
+array-copy-out-item : tie.Need-array-copy-out-item Inv-loop μ-loop
+array-copy-out-item c = search needs
+
+merge-row-requires : tie.Need-merge-row-requires Inv-loop μ-loop
+merge-row-requires c κs = search needs
+
+mul-next : tie.Need-mul-next Inv-loop μ-loop
+mul-next c = search needs
+
+array-set-from-next : tie.Need-array-set-from-next Inv-loop μ-loop
+array-set-from-next c = search needs
+
+add-i : tie.Need-add-i Inv-loop μ-loop
+add-i c = search needs
+
+loop-less : tie.Need-loop-less Inv-loop μ-loop
+loop-less c = search needs
+
+loop-again : tie.Need-loop-again Inv-loop μ-loop
+loop-again c = let l = c .before .before .before .before .loop in
+    let a = c .before .before .before .before .before .args in (
+      omega arith,
+      l .inv .1,
+      l .inv .2,
+      rw (c .merge-row .ensures, l .inv .3, merged-turn (a .first) (l .i) (a .rows) (a .t3) zeroRow zeroItem (omega arith) (omega arith)),
+    )
+
+returns : tie.Need-returns Inv-loop μ-loop
+returns c = let l = c .before .loop in
+    let a = c .before .before .args in
+    let e : l .i ≡ 15 = omega arith in
+    rw (l .inv .3, e, merged-all (a .first) 15 (a .rows) (a .t3) (l .inv .1) (l .inv .2))
+
+pub merge-rows-spec : {M : Type 1} → statement M
+merge-rows-spec =
+    tie.close
+    (tie.spec
+    Inv-loop
+    μ-loop
+    loop-holds
+    mul-row
+    array-copy-out-row
+    mul-item
+    array-copy-out-item
+    merge-row-requires
+    mul-next
+    array-set-from-next
+    add-i
+    loop-less
+    loop-again
+    returns)
