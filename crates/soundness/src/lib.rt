@@ -4,6 +4,10 @@
 use item::Attempt;
 use item::Incarnation;
 use item::Row;
+use node::count_peers;
+use node::half;
+use node::peer_of;
+use phase::is_confirming;
 use protocol::Node;
 use protocol::Peer;
 use protocol::Phase;
@@ -150,4 +154,81 @@ pub fn peers_sound(number: usize, n: usize, peers: [Peer; Node::MAX_ROWS]) -> bo
         k += 1;
     }
     true
+}
+
+// Whether a node of a group of n has nothing in its rows but what its phase uses.
+pub fn rows_sound(n: usize, node: Node) -> bool
+    ensures { λ r. ⌜ r ≡ rowsSound n node ⌝ }
+{
+    let phase = node.phase;
+    let counted = node.counted;
+    let rows = node.rows;
+    let held = row_use(phase, count_peers(counted));
+    every_row(held, n, rows)
+}
+
+// Whether peer k is asked, if it is counted.
+pub fn among_asked(asked: [Peer; Node::MAX_ROWS], k: usize, peer: Peer) -> bool
+    ensures { λ r. ⌜ r ≡ amongAsked asked k peer ⌝ }
+{
+    if !peer.present {
+        return true;
+    }
+    peer_of(asked, k).present
+}
+
+// Whether everyone counted is asked.
+fn all_among_asked(counted: [Peer; Node::MAX_ROWS], asked: [Peer; Node::MAX_ROWS]) -> bool
+    ensures { λ r. ⌜ r ≡ everyFrom (amongAsked asked) 0 counted ⌝ }
+{
+    let mut k: usize = 0;
+    while k < Node::MAX_ROWS {
+        let peer = counted[k];
+        if !among_asked(asked, k, peer) {
+            return false;
+        }
+        k += 1;
+    }
+    true
+}
+
+// Whether everyone counted is asked, in a phase that asks.
+pub fn counted_asked(phase: Phase, counted: [Peer; Node::MAX_ROWS], asked: [Peer; Node::MAX_ROWS]) -> bool
+    ensures { λ r. ⌜ r ≡ countedAsked phase counted asked ⌝ }
+{
+    if !is_confirming(phase) {
+        return true;
+    }
+    all_among_asked(counted, asked)
+}
+
+// Whether the node is sound at this place of the table of a group of n.
+pub fn node_sound(n: usize, place: usize, node: Node) -> bool
+    ensures { λ r. ⌜ r ≡ soundNode n place node ⌝ }
+{
+    if node.number != place {
+        return false;
+    }
+    if node.n != n {
+        return false;
+    }
+    let phase = node.phase;
+    if !attempt_fits(phase, node.attempt) {
+        return false;
+    }
+    if !rows_sound(n, node) {
+        return false;
+    }
+    let counted = node.counted;
+    if !peers_sound(place, n, counted) {
+        return false;
+    }
+    let asked = node.asked;
+    if !peers_sound(place, n, asked) {
+        return false;
+    }
+    if !phase_counts(phase, half(n), count_peers(counted), count_peers(asked)) {
+        return false;
+    }
+    counted_asked(phase, counted, asked)
 }

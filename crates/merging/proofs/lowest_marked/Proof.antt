@@ -1,6 +1,6 @@
 -- `merging::lowest_marked` meets its contract: at place i the answer is i and what the rows from i on give.
 use Rattle.merging.proofs.Marks.{lowest-here, lowest-next, lowest-none}
-use Rattle.merging.proofs.Lengths.{length-mapped}
+use Rattle.node.proofs.Array.{length-mapped}
 use Rattle.protocol.specs.Merge.{lowestMarked}
 use lib.ListN.{length, drop}
 use mathlib.Core.Path.{_≡_}

@@ -1,6 +1,6 @@
 -- `merging::merge_rows` meets its contract: after i turns the first i rows are merged, and the others as they were.
 use Rattle.merging.proofs.Merge.{mergedTo, merged-turn, merged-all}
-use Rattle.merging.proofs.Lengths.{length-mapped}
+use Rattle.node.proofs.Array.{length-mapped}
 use Rattle.item.specs.Row.{zeroRow}
 use Rattle.item.specs.Item.{zeroItem}
 use lib.ListN.{length}

@@ -1,6 +1,6 @@
 -- `soundness::every_row` meets its contract: at place k the rows from k on tell the answer.
 use Rattle.soundness.proofs.Every.{every-passes, every-fails, every-passed}
-use Rattle.soundness.proofs.Lengths.{length-mapped}
+use Rattle.node.proofs.Array.{length-mapped}
 use Rattle.item.specs.Tests.{refuted, granted}
 use Rattle.item.specs.Row.{zeroRow}
 use Rattle.protocol.specs.Sound.{everyFrom, rowSound}

@@ -1,6 +1,6 @@
 -- `soundness::peers_sound` meets its contract: at place k the peers from k on tell the answer.
 use Rattle.soundness.proofs.Every.{every-passes, every-fails, every-passed}
-use Rattle.soundness.proofs.Lengths.{length-mapped}
+use Rattle.node.proofs.Array.{length-mapped}
 use Rattle.item.specs.Tests.{refuted, granted}
 use Rattle.protocol.specs.Node.{noPeer}
 use Rattle.protocol.specs.Sound.{everyFrom, peerSound, peersSound}

@@ -1,0 +1,15 @@
+-- `node::step::send_fetch` meets its contract: it is the call.
+use Rattle.protocol.specs.Write.{sendFetch}
+use borrow.Author.Needs.{needs}
+use Rattle.node.proofs.step.send_fetch.Statement.{statement}
+use Rattle.node.proofs.step.send_fetch.Tie as tie
+
+ok-requires : tie.Need-ok-requires
+ok-requires c κs = search needs
+
+returns : tie.Need-returns
+unfolding sendFetch
+returns c = c .ok .ensures
+
+pub send-fetch-spec : {M : Type 1} → statement M
+send-fetch-spec = tie.close (tie.spec ok-requires returns)

@@ -1,0 +1,30 @@
+-- `phase::is_confirming_stage` meets its contract: an arm for each stage.
+use Rattle.protocol.specs.Phase.{isConfirmingStage}
+use borrow.Author.Needs.{needs}
+use Rattle.phase.proofs.is_confirming_stage.Statement.{statement}
+use Rattle.phase.proofs.is_confirming_stage.Tie as tie
+
+enum-told : tie.Need-enum-told
+enum-told c = search needs
+
+enum-told-2 : tie.Need-enum-told-2
+enum-told-2 c = search needs
+
+enum-told-3 : tie.Need-enum-told-3
+enum-told-3 c = search needs
+
+returns : tie.Need-returns
+unfolding isConfirmingStage
+returns c = search needs
+
+returns-2 : tie.Need-returns-2
+unfolding isConfirmingStage
+returns-2 c = search needs
+
+returns-3 : tie.Need-returns-3
+unfolding isConfirmingStage
+returns-3 c = search needs
+
+pub is-confirming-stage-spec : {M : Type 1} → statement M
+is-confirming-stage-spec =
+    tie.close (tie.spec enum-told enum-told-2 enum-told-3 returns returns-2 returns-3)

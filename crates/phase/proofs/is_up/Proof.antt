@@ -1,0 +1,38 @@
+-- `phase::is_up` meets its contract: an arm for each phase.
+use Rattle.protocol.specs.Phase.{isUp}
+use borrow.Author.Needs.{needs}
+use Rattle.phase.proofs.is_up.Statement.{statement}
+use Rattle.phase.proofs.is_up.Tie as tie
+
+enum-told : tie.Need-enum-told
+enum-told c = search needs
+
+enum-told-2 : tie.Need-enum-told-2
+enum-told-2 c = search needs
+
+enum-told-3 : tie.Need-enum-told-3
+enum-told-3 c = search needs
+
+enum-told-4 : tie.Need-enum-told-4
+enum-told-4 c = search needs
+
+returns : tie.Need-returns
+unfolding isUp
+returns c = search needs
+
+returns-2 : tie.Need-returns-2
+unfolding isUp
+returns-2 c = search needs
+
+returns-3 : tie.Need-returns-3
+unfolding isUp
+returns-3 c = search needs
+
+returns-4 : tie.Need-returns-4
+unfolding isUp
+returns-4 c = search needs
+
+pub is-up-spec : {M : Type 1} → statement M
+is-up-spec =
+    tie.close
+    (tie.spec enum-told enum-told-2 enum-told-3 enum-told-4 returns returns-2 returns-3 returns-4)
