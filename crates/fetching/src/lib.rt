@@ -50,7 +50,12 @@ pub fn none_counted(node: Node) -> bool
 }
 
 // The table of this sender is counted, and every row merged with its item.
-pub fn with_table(node: Node, sender: usize, incarnation: Incarnation, items: [Item; Node::MAX_ROWS]) -> Node
+pub fn with_table(
+    node: Node,
+    sender: usize,
+    incarnation: Incarnation,
+    items: [Item; Node::MAX_ROWS],
+) -> Node
     ensures { λ r. ⌜ r ≡ withTable node sender incarnation items ⌝ }
 {
     let rows = node.rows;

@@ -193,7 +193,11 @@ fn all_among_asked(counted: [Peer; Node::MAX_ROWS], asked: [Peer; Node::MAX_ROWS
 }
 
 // Whether everyone counted is asked, in a phase that asks.
-pub fn counted_asked(phase: Phase, counted: [Peer; Node::MAX_ROWS], asked: [Peer; Node::MAX_ROWS]) -> bool
+pub fn counted_asked(
+    phase: Phase,
+    counted: [Peer; Node::MAX_ROWS],
+    asked: [Peer; Node::MAX_ROWS],
+) -> bool
     ensures { λ r. ⌜ r ≡ countedAsked phase counted asked ⌝ }
 {
     if !is_confirming(phase) {

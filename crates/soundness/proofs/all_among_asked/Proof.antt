@@ -1,51 +1,60 @@
+-- `soundness::all_among_asked` meets its contract: at place k the counted from k on tell the answer.
+use Rattle.soundness.proofs.Every.{every-passes, every-fails, every-passed}
+use Rattle.node.proofs.Array.{length-mapped}
+use Rattle.item.specs.Tests.{refuted, granted}
+use Rattle.protocol.specs.Node.{noPeer}
+use Rattle.protocol.specs.Sound.{everyFrom, amongAsked}
+use lib.ListN.{length, drop}
+use mathlib.Core.Bool.{true, false}
+use mathlib.Core.Path.{_≡_, refl, _∙_}
+use Prim.Native.Nat.{ℕ, _≤_, _-_}
+use native.Mathlib.Omega.{arith}
 use borrow.Author.Needs.{needs}
 use Rattle.soundness.proofs.all_among_asked.Statement.{statement}
 use Rattle.soundness.proofs.all_among_asked.Tie as tie
-use Rattle.soundness.proofs.all_among_asked.Reads as reads
-use Rattle.soundness.proofs.all_among_asked.Lts as lts
-use Rattle.soundness.proofs.among_asked.Reads as among-asked-reads
 
 abbrev Inv-loop : tie.InvT-loop
-Inv-loop asked counted k₀ k = ?
+Inv-loop asked counted k₀ k =
+    (k ≤ 15) × (length counted ≡ 15) × (everyFrom (amongAsked asked) 0 counted ≡ everyFrom (amongAsked asked) k (drop k counted))
 
 abbrev μ-loop : tie.MeasureT-loop
-μ-loop asked counted k₀ k = ?
+μ-loop asked counted k₀ k = 15 - k
 
--- src/lib.rt:185:5
 loop-holds : tie.Need-loop-holds Inv-loop μ-loop
-loop-holds c = search needs
+loop-holds c = (omega arith, search length-mapped, refl)
 
--- src/lib.rt:186:20
 mul-peer : tie.Need-mul-peer Inv-loop μ-loop
 mul-peer c = search needs
 
--- src/lib.rt:186:20
 array-copy-out-peer : tie.Need-array-copy-out-peer Inv-loop μ-loop
 array-copy-out-peer c = search needs
 
--- src/lib.rt:187:13
 among-asked-requires : tie.Need-among-asked-requires Inv-loop μ-loop
 among-asked-requires c κs = search needs
 
--- src/lib.rt:188:13
 returns : tie.Need-returns Inv-loop μ-loop
-returns c = search needs
+returns c = let l = c .before .before .before .before .loop in
+    let a = c .before .before .before .before .before .args in
+    rw (l .inv .2, every-fails (amongAsked (a .asked)) (a .t1) noPeer (l .k) (omega arith) (refuted (c .before .among-asked .ensures) (c .if1 .taken)))
 
--- src/lib.rt:190:9
 add-k : tie.Need-add-k Inv-loop μ-loop
 add-k c = search needs
 
--- src/lib.rt:185:5
 loop-less : tie.Need-loop-less Inv-loop μ-loop
 loop-less c = search needs
 
--- src/lib.rt:185:5
 loop-again : tie.Need-loop-again Inv-loop μ-loop
-loop-again c = search needs
+loop-again c = let l = c .before .before .before .before .loop in
+    let a = c .before .before .before .before .before .args in (
+      omega arith,
+      l .inv .1,
+      l .inv .2 ∙ every-passes (amongAsked (a .asked)) (a .t1) noPeer (l .k) (omega arith) (granted (c .before .among-asked .ensures) (c .if1 .left)),
+    )
 
--- src/lib.rt:181:1
 returns-2 : tie.Need-returns-2 Inv-loop μ-loop
-returns-2 c = search needs
+returns-2 c = let l = c .before .loop in
+    let a = c .before .before .args in
+    rw (l .inv .2, every-passed (amongAsked (a .asked)) (a .t1) noPeer (l .k) (omega arith))
 
 pub all-among-asked-spec : {M : Type 1} → statement M
 all-among-asked-spec =

@@ -1,27 +1,21 @@
+-- `soundness::rows_sound` meets its contract: it is the calls.
+use Rattle.protocol.specs.Sound.{rowsSound}
 use borrow.Author.Needs.{needs}
 use Rattle.soundness.proofs.rows_sound.Statement.{statement}
 use Rattle.soundness.proofs.rows_sound.Tie as tie
-use Rattle.soundness.proofs.rows_sound.Reads as reads
-use Rattle.soundness.proofs.rows_sound.Lts as lts
-use Rattle.node.proofs.count_peers.Reads as count-peers-reads
-use Rattle.soundness.proofs.every_row.Reads as every-row-reads
-use Rattle.soundness.proofs.row_use.Reads as row-use-reads
 
--- src/lib.rt:166:31
 count-peers-requires : tie.Need-count-peers-requires
 count-peers-requires c κs = search needs
 
--- src/lib.rt:166:9
 row-use-requires : tie.Need-row-use-requires
 row-use-requires c κs = search needs
 
--- src/lib.rt:167:5
 every-row-requires : tie.Need-every-row-requires
 every-row-requires c κs = search needs
 
--- src/lib.rt:160:1
 returns : tie.Need-returns
-returns c = search needs
+unfolding rowsSound
+returns c = rw (c .every-row .ensures, c .before .row-use .ensures, c .before .before .count-peers .ensures)
 
 pub rows-sound-spec : {M : Type 1} → statement M
 rows-sound-spec =
