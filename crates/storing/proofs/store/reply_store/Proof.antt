@@ -1,0 +1,36 @@
+use borrow.Author.Needs.{needs}
+use Rattle.storing.proofs.store.reply_store.Statement.{statement}
+use Rattle.storing.proofs.store.reply_store.Tie as tie
+
+enum-known-verdict : tie.Need-enum-known-verdict
+enum-known-verdict c = search needs
+
+refused-requires : tie.Need-refused-requires
+refused-requires c κs = search needs
+
+enum-told : tie.Need-enum-told
+enum-told c = search needs
+
+with-row-requires : tie.Need-with-row-requires
+with-row-requires c κs = search needs
+
+ok-requires : tie.Need-ok-requires
+ok-requires c κs = search needs
+
+returns : tie.Need-returns
+returns c = search needs
+
+returns-2 : tie.Need-returns-2
+returns-2 c = search needs
+
+pub reply-store-spec : {M : Type 1} → statement M
+reply-store-spec =
+    tie.close
+    (tie.spec
+    enum-known-verdict
+    refused-requires
+    enum-told
+    with-row-requires
+    ok-requires
+    returns
+    returns-2)

@@ -1,0 +1,40 @@
+use borrow.Author.Needs.{needs}
+use Rattle.storing.proofs.stored.stored_counted.Statement.{statement}
+use Rattle.storing.proofs.stored.stored_counted.Tie as tie
+
+count-peers-requires : tie.Need-count-peers-requires
+count-peers-requires c κs = search needs
+
+half-requires : tie.Need-half-requires
+half-requires c κs = search needs
+
+ok-requires : tie.Need-ok-requires
+ok-requires c κs = search needs
+
+returns : tie.Need-returns
+returns c = search needs
+
+at-stage-requires : tie.Need-at-stage-requires
+at-stage-requires c κs = search needs
+
+confirming-begun-requires : tie.Need-confirming-begun-requires
+confirming-begun-requires c κs = search needs
+
+send-confirm-requires : tie.Need-send-confirm-requires
+send-confirm-requires c κs = search needs
+
+returns-2 : tie.Need-returns-2
+returns-2 c = search needs
+
+pub stored-counted-spec : {M : Type 1} → statement M
+stored-counted-spec =
+    tie.close
+    (tie.spec
+    count-peers-requires
+    half-requires
+    ok-requires
+    returns
+    at-stage-requires
+    confirming-begun-requires
+    send-confirm-requires
+    returns-2)
