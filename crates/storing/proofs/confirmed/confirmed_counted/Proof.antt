@@ -1,3 +1,6 @@
+-- `storing::confirmed::confirmed_counted` meets its contract: the count is held to f, both by calls.
+use borrow.Author.Tests.{lt-ltb, le-ltb}
+use Rattle.protocol.specs.Storing.{confirmedCounted}
 use borrow.Author.Needs.{needs}
 use Rattle.storing.proofs.confirmed.confirmed_counted.Statement.{statement}
 use Rattle.storing.proofs.confirmed.confirmed_counted.Tie as tie
@@ -12,13 +15,19 @@ ok-requires : tie.Need-ok-requires
 ok-requires c κs = search needs
 
 returns : tie.Need-returns
-returns c = search needs
+unfolding confirmedCounted
+returns c =
+    let few = rw (c .before .before .before .count-peers .ensures, c .before .before .half .ensures) at (lt-ltb _ _ (c .before .if1 .taken)) in
+    rw (c .ok .ensures, few)
 
 store-success-requires : tie.Need-store-success-requires
 store-success-requires c κs = search needs
 
 returns-2 : tie.Need-returns-2
-returns-2 c = search needs
+unfolding confirmedCounted
+returns-2 c =
+    let enough = rw (c .before .before .before .count-peers .ensures, c .before .before .half .ensures) at (le-ltb _ _ (c .before .if1 .left)) in
+    rw (c .store-success .ensures, enough)
 
 pub confirmed-counted-spec : {M : Type 1} → statement M
 confirmed-counted-spec =

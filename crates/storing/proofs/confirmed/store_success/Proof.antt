@@ -1,3 +1,5 @@
+-- `storing::confirmed::store_success` meets its contract: the answer and the node are those of the calls.
+use Rattle.protocol.specs.Storing.{storeSuccess}
 use borrow.Author.Needs.{needs}
 use Rattle.storing.proofs.confirmed.store_success.Statement.{statement}
 use Rattle.storing.proofs.confirmed.store_success.Tie as tie
@@ -12,7 +14,8 @@ write-ended-requires : tie.Need-write-ended-requires
 write-ended-requires c κs = search needs
 
 returns : tie.Need-returns
-returns c = search needs
+unfolding storeSuccess
+returns c = rw (c .write-ended .ensures, c .before .end-answer .ensures, c .before .before .own-item .ensures)
 
 pub store-success-spec : {M : Type 1} → statement M
 store-success-spec =

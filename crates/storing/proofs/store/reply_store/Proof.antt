@@ -1,3 +1,5 @@
+-- `storing::store::reply_store` meets its contract: an arm for each verdict.
+use Rattle.protocol.specs.Storing.{replyStore}
 use borrow.Author.Needs.{needs}
 use Rattle.storing.proofs.store.reply_store.Statement.{statement}
 use Rattle.storing.proofs.store.reply_store.Tie as tie
@@ -18,10 +20,12 @@ ok-requires : tie.Need-ok-requires
 ok-requires c κs = search needs
 
 returns : tie.Need-returns
-returns c = search needs
+unfolding replyStore
+returns c = rw (c .refused .ensures, c .before .before .verdict .given .1)
 
 returns-2 : tie.Need-returns-2
-returns-2 c = search needs
+unfolding replyStore
+returns-2 c = rw (c .ok .ensures, c .before .with-row .ensures, c .before .before .enum-told .given .1)
 
 pub reply-store-spec : {M : Type 1} → statement M
 reply-store-spec =

@@ -1,3 +1,6 @@
+-- `storing::stored::stored_counted` meets its contract: the count is held to f, both by calls.
+use borrow.Author.Tests.{lt-ltb, le-ltb}
+use Rattle.protocol.specs.Storing.{storedCounted}
 use borrow.Author.Needs.{needs}
 use Rattle.storing.proofs.stored.stored_counted.Statement.{statement}
 use Rattle.storing.proofs.stored.stored_counted.Tie as tie
@@ -12,7 +15,10 @@ ok-requires : tie.Need-ok-requires
 ok-requires c κs = search needs
 
 returns : tie.Need-returns
-returns c = search needs
+unfolding storedCounted
+returns c =
+    let few = rw (c .before .before .before .count-peers .ensures, c .before .before .half .ensures) at (lt-ltb _ _ (c .before .if1 .taken)) in
+    rw (c .ok .ensures, few)
 
 at-stage-requires : tie.Need-at-stage-requires
 at-stage-requires c κs = search needs
@@ -24,7 +30,10 @@ send-confirm-requires : tie.Need-send-confirm-requires
 send-confirm-requires c κs = search needs
 
 returns-2 : tie.Need-returns-2
-returns-2 c = search needs
+unfolding storedCounted
+returns-2 c =
+    let enough = rw (c .before .before .before .before .before .count-peers .ensures, c .before .before .before .before .half .ensures) at (le-ltb _ _ (c .before .before .before .if1 .left)) in
+    rw (c .send-confirm .ensures, c .before .confirming-begun .ensures, c .before .before .at-stage .ensures, enough)
 
 pub stored-counted-spec : {M : Type 1} → statement M
 stored-counted-spec =
