@@ -1,0 +1,26 @@
+-- `writing::retried` meets its contract: it is the call, with what the calls before it give.
+use Rattle.protocol.specs.Write.{retried}
+use borrow.Author.Needs.{needs}
+use Rattle.writing.proofs.retried.Statement.{statement}
+use Rattle.writing.proofs.retried.Tie as tie
+
+at-stage-requires : tie.Need-at-stage-requires
+at-stage-requires c κs = search needs
+
+next-requires : tie.Need-next-requires
+next-requires c κs = search needs
+
+own-item-requires : tie.Need-own-item-requires
+own-item-requires c κs = search needs
+
+storing-begun-requires : tie.Need-storing-begun-requires
+storing-begun-requires c κs = search needs
+
+returns : tie.Need-returns
+unfolding retried
+returns c = rw (c .storing-begun .ensures, c .before .own-item .ensures, c .before .before .next .ensures, c .before .before .before .at-stage .ensures)
+
+pub retried-spec : {M : Type 1} → statement M
+retried-spec =
+    tie.close
+    (tie.spec at-stage-requires next-requires own-item-requires storing-begun-requires returns)
