@@ -26,6 +26,13 @@ struct Pair {
     other: Node,
 }
 
+// The nodes of a group of three.
+struct Trio {
+    first: Node,
+    second: Node,
+    third: Node,
+}
+
 fn text(bytes: &[u8]) {
     io::write_all(1, bytes);
 }
@@ -278,18 +285,41 @@ fn with_item(node: Node, index: u64, tag: u64) -> Node {
     next
 }
 
-fn main() {
-    let second = fresh_node(1, 3);
-    let third = fresh_node(2, 3);
-    let begun = do_write(fresh_node(0, 3), Tag(65));
-    let settled = both_rounds(begun, second);
-    let down = do_crash(settled.writer);
+// A write, settled.
+fn run_write(nodes: Trio) -> Trio {
+    let begun = do_write(nodes.first, Tag(65));
+    let ended = both_rounds(begun, nodes.second);
+    let first = ended.writer;
+    let second = ended.other;
+    let third = nodes.third;
+    Trio {
+        first: first,
+        second: second,
+        third: third,
+    }
+}
+
+// A crash, and the return to accepted.
+fn run_return(nodes: Trio) -> Trio {
+    let down = do_crash(nodes.first);
     let started = do_start(down.node);
-    let returning = two_tables(started, settled.other, third);
-    let accepted = both_rounds(returning, settled.other);
-    let second = with_item(accepted.other, 7, 1);
-    let third = with_item(third, 7, 2);
-    let down = do_crash(accepted.writer);
+    let returning = two_tables(started, nodes.second, nodes.third);
+    let ended = both_rounds(returning, nodes.second);
+    let first = ended.writer;
+    let second = ended.other;
+    let third = nodes.third;
+    Trio {
+        first: first,
+        second: second,
+        third: third,
+    }
+}
+
+// Two tables that disagree on the row of node 2; then a late table of the earlier start, and one that comes twice.
+fn run_conflict(nodes: Trio) -> Node {
+    let second = with_item(nodes.second, 7, 1);
+    let third = with_item(nodes.third, 7, 2);
+    let down = do_crash(nodes.first);
     let started = do_start(down.node);
     let stopped = two_tables(started, second, third);
     let again = do_start(stopped.node);
@@ -298,7 +328,24 @@ fn main() {
     let table = hand(again, second);
     let counted = hand(table, again.node);
     hand(table, counted.node);
-    let down = do_crash(third);
-    let fetching = do_start(down.node);
-    hand(fetching, counted.node);
+    counted.node
+}
+
+// A node that is Fetching does not answer another's Fetch.
+fn run_unanswered(fetching: Node, node: Node) {
+    let down = do_crash(node);
+    let started = do_start(down.node);
+    hand(started, fetching);
+}
+
+fn main() {
+    let fresh = Trio {
+        first: fresh_node(0, 3),
+        second: fresh_node(1, 3),
+        third: fresh_node(2, 3),
+    };
+    let settled = run_write(fresh);
+    let accepted = run_return(settled);
+    let fetching = run_conflict(accepted);
+    run_unanswered(fetching, accepted.third);
 }

@@ -41,77 +41,6 @@ pub fn on_fetch(node: Node, incarnation: Incarnation) -> Step
     ok(node, Sends::Back(Message::Table { other: incarnation }))
 }
 
-// Whether no table is counted yet.
-pub fn none_counted(node: Node) -> bool
-    ensures { λ r. ⌜ r ≡ noneCounted node ⌝ }
-{
-    let counted = node.counted;
-    count_peers(counted) == 0
-}
-
-// The table of this sender is counted, and every row merged with its item.
-pub fn with_table(
-    node: Node,
-    sender: usize,
-    incarnation: Incarnation,
-    items: [Item; Node::MAX_ROWS],
-) -> Node
-    ensures { λ r. ⌜ r ≡ withTable node sender incarnation items ⌝ }
-{
-    let rows = node.rows;
-    let merged = merge_rows(none_counted(node), rows, items);
-    with_counted(with_rows(node, merged), sender, incarnation)
-}
-
-// Whether some row's greatest index has come with two tags.
-pub fn has_conflict(node: Node) -> bool
-    ensures { λ r. ⌜ r ≡ hasConflict node ⌝ }
-{
-    let rows = node.rows;
-    lowest_marked(rows) < Node::MAX_ROWS
-}
-
-// The return ends at the lowest marked row, and the node is Down.
-pub fn stopped(node: Node) -> Step
-    ensures { λ r. ⌜ r ≡ definition.stopped node ⌝ }
-{
-    let rows = node.rows;
-    Step {
-        answer: Answer::Stopped(lowest_marked(rows)),
-        node: crashed(node),
-        sends: Sends::Nothing,
-    }
-}
-
-// Returning: the node writes back its own item under attempt 1.
-pub fn written_back(node: Node) -> Node
-    ensures { λ r. ⌜ r ≡ writtenBack node ⌝ }
-{
-    let item = own_item(node);
-    storing_begun(node, Phase::Returning(Stage::Storing), Attempt(1), item)
-}
-
-// What a node that counts f + 1 tables does: it stops, or it sends the item that it writes back to every other node.
-pub fn node_recover(node: Node) -> Step
-    ensures { λ r. ⌜ r ≡ nodeRecover node ⌝ }
-{
-    if has_conflict(node) {
-        return stopped(node);
-    }
-    send_store(written_back(node))
-}
-
-// What a node does that has counted one more table: nothing before f + 1.
-pub fn table_counted(node: Node) -> Step
-    ensures { λ r. ⌜ r ≡ tableCounted node ⌝ }
-{
-    let counted = node.counted;
-    if count_peers(counted) <= half(node.n) {
-        return ok(node, Sends::Nothing);
-    }
-    node_recover(node)
-}
-
 // Table: a node that is Fetching in the incarnation asked counts the table of each sender once.
 pub fn on_table(
     node: Node,
@@ -133,4 +62,75 @@ pub fn on_table(
         return refused(node, Refusal::Counted);
     }
     table_counted(with_table(node, sender, incarnation, items))
+}
+
+// The table of this sender is counted, and every row merged with its item.
+fn with_table(
+    node: Node,
+    sender: usize,
+    incarnation: Incarnation,
+    items: [Item; Node::MAX_ROWS],
+) -> Node
+    ensures { λ r. ⌜ r ≡ withTable node sender incarnation items ⌝ }
+{
+    let rows = node.rows;
+    let merged = merge_rows(none_counted(node), rows, items);
+    with_counted(with_rows(node, merged), sender, incarnation)
+}
+
+// Whether no table is counted yet.
+fn none_counted(node: Node) -> bool
+    ensures { λ r. ⌜ r ≡ noneCounted node ⌝ }
+{
+    let counted = node.counted;
+    count_peers(counted) == 0
+}
+
+// What a node does that has counted one more table: nothing before f + 1.
+fn table_counted(node: Node) -> Step
+    ensures { λ r. ⌜ r ≡ tableCounted node ⌝ }
+{
+    let counted = node.counted;
+    if count_peers(counted) <= half(node.n) {
+        return ok(node, Sends::Nothing);
+    }
+    node_recover(node)
+}
+
+// What a node that counts f + 1 tables does: it stops, or it sends the item that it writes back to every other node.
+fn node_recover(node: Node) -> Step
+    ensures { λ r. ⌜ r ≡ nodeRecover node ⌝ }
+{
+    if has_conflict(node) {
+        return stopped(node);
+    }
+    send_store(written_back(node))
+}
+
+// Whether some row's greatest index has come with two tags.
+fn has_conflict(node: Node) -> bool
+    ensures { λ r. ⌜ r ≡ hasConflict node ⌝ }
+{
+    let rows = node.rows;
+    lowest_marked(rows) < Node::MAX_ROWS
+}
+
+// The return ends at the lowest marked row, and the node is Down.
+fn stopped(node: Node) -> Step
+    ensures { λ r. ⌜ r ≡ definition.stopped node ⌝ }
+{
+    let rows = node.rows;
+    Step {
+        answer: Answer::Stopped(lowest_marked(rows)),
+        node: crashed(node),
+        sends: Sends::Nothing,
+    }
+}
+
+// Returning: the node writes back its own item under attempt 1.
+fn written_back(node: Node) -> Node
+    ensures { λ r. ⌜ r ≡ writtenBack node ⌝ }
+{
+    let item = own_item(node);
+    storing_begun(node, Phase::Returning(Stage::Storing), Attempt(1), item)
 }

@@ -7,17 +7,16 @@ use item::Row;
 use protocol::Node;
 ghost use mathlib.Core.Path.{_≡_};
 ghost use Rattle.protocol.specs.Merge.{markedRow, mergeRow, mergeRows, lowestMarked};
-ghost use Rattle.protocol.specs.Node.{rebuiltRow};
 
-// The row that a table's item makes: no counters and no mark.
-fn rebuilt_row(item: Item) -> Row
-    ensures { λ r. ⌜ r ≡ rebuiltRow item ⌝ }
+// The row that a table's item makes, with no counters and with this mark.
+fn fetched_row(item: Item, marked: bool) -> Row
+    ensures { λ r. ⌜ r ≡ record { item = item; incarnation = record { 0 = 0 }; attempt = record { 0 = 0 }; marked = marked } ⌝ }
 {
     Row {
         item: item,
         incarnation: Incarnation(0),
         attempt: Attempt(0),
-        marked: false,
+        marked: marked,
     }
 }
 
@@ -36,10 +35,10 @@ pub fn merge_row(first: bool, row: Row, item: Item) -> Row
     ensures { λ r. ⌜ r ≡ mergeRow first row item ⌝ }
 {
     if first {
-        return rebuilt_row(item);
+        return fetched_row(item, false);
     }
     if row.item.ranks_below(item) {
-        return rebuilt_row(item);
+        return fetched_row(item, false); // and the mark is cleared
     }
     if item.ranks_below(row.item) {
         return row;
@@ -73,15 +72,15 @@ pub fn merge_rows(
 pub fn lowest_marked(rows: [Row; Node::MAX_ROWS]) -> usize
     ensures { λ r. ⌜ r ≡ lowestMarked rows ⌝ }
 {
-    let mut i: usize = 0;
+    let mut k: usize = 0;
     let found = loop {
-        if Node::MAX_ROWS <= i {
-            break i;
+        if Node::MAX_ROWS <= k {
+            break k;
         }
-        if rows[i].marked {
-            break i;
+        if rows[k].marked {
+            break k;
         }
-        i += 1;
+        k += 1;
     };
     found
 }

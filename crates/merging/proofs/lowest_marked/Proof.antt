@@ -1,4 +1,4 @@
--- `merging::lowest_marked` meets its contract: at place i the answer is i and what the rows from i on give.
+-- `merging::lowest_marked` meets its contract: at place k the answer is k and what the rows from k on give.
 use Rattle.merging.proofs.Marks.{lowest-here, lowest-next, lowest-none}
 use Rattle.node.proofs.Array.{length-mapped}
 use Rattle.protocol.specs.Merge.{lowestMarked}
@@ -11,10 +11,10 @@ use Rattle.merging.proofs.lowest_marked.Statement.{statement}
 use Rattle.merging.proofs.lowest_marked.Tie as tie
 
 abbrev Inv-loop : tie.InvT-loop
-Inv-loop rows i₀ i = (i ≤ 15) × (length rows ≡ 15) × (lowestMarked rows ≡ i + lowestMarked (drop i rows))
+Inv-loop rows k₀ k = (k ≤ 15) × (length rows ≡ 15) × (lowestMarked rows ≡ k + lowestMarked (drop k rows))
 
 abbrev μ-loop : tie.MeasureT-loop
-μ-loop rows i₀ i = 15 - i
+μ-loop rows k₀ k = 15 - k
 
 loop-holds : tie.Need-loop-holds Inv-loop μ-loop
 loop-holds c = (omega arith, search length-mapped, omega arith)
@@ -25,26 +25,26 @@ mul-if2 c = search needs
 element-copy-out-if2 : tie.Need-element-copy-out-if2 Inv-loop μ-loop
 element-copy-out-if2 c = search needs
 
-add-i : tie.Need-add-i Inv-loop μ-loop
-add-i c = search needs
+add-k : tie.Need-add-k Inv-loop μ-loop
+add-k c = search needs
 
 loop-less : tie.Need-loop-less Inv-loop μ-loop
 loop-less c = search needs
 
 loop-again : tie.Need-loop-again Inv-loop μ-loop
 loop-again c = let rows = c .before .before .before .args .t1 in
-    let i = c .before .before .loop .i in
-    (omega arith, search needs, omega (arith, lowest-next rows i (omega arith) (c .if2 .left)))
+    let k = c .before .before .loop .k in
+    (omega arith, search needs, omega (arith, lowest-next rows k (omega arith) (c .if2 .left)))
 
 returns : tie.Need-returns Inv-loop μ-loop
 returns c = let rows = c .before .before .args .t1 in
-    let i = c .before .loop .i in
-    omega (arith, lowest-none rows i (omega arith))
+    let k = c .before .loop .k in
+    omega (arith, lowest-none rows k (omega arith))
 
 returns-2 : tie.Need-returns-2 Inv-loop μ-loop
 returns-2 c = let rows = c .before .before .before .args .t1 in
-    let i = c .before .before .loop .i in
-    omega (arith, lowest-here rows i (omega arith) (c .if2 .taken))
+    let k = c .before .before .loop .k in
+    omega (arith, lowest-here rows k (omega arith) (c .if2 .taken))
 
 pub lowest-marked-spec : {M : Type 1} → statement M
 lowest-marked-spec =
@@ -55,7 +55,7 @@ lowest-marked-spec =
     loop-holds
     mul-if2
     element-copy-out-if2
-    add-i
+    add-k
     loop-less
     loop-again
     returns

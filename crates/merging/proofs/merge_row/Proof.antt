@@ -5,23 +5,23 @@ use borrow.Author.Needs.{needs}
 use Rattle.merging.proofs.merge_row.Statement.{statement}
 use Rattle.merging.proofs.merge_row.Tie as tie
 
-rebuilt-row-requires : tie.Need-rebuilt-row-requires
-rebuilt-row-requires c κs = search needs
+fetched-row-requires : tie.Need-fetched-row-requires
+fetched-row-requires c κs = search needs
 
 returns : tie.Need-returns
 unfolding mergeRow
-returns c = rw (c .rebuilt-row .ensures, c .before .if1 .taken)
+returns c = rw (c .fetched-row .ensures, c .before .if1 .taken)
 
 ranks-below-requires : tie.Need-ranks-below-requires
 ranks-below-requires c κs = search needs
 
-rebuilt-row-requires-2 : tie.Need-rebuilt-row-requires-2
-rebuilt-row-requires-2 c κs = search needs
+fetched-row-requires-2 : tie.Need-fetched-row-requires-2
+fetched-row-requires-2 c κs = search needs
 
 returns-2 : tie.Need-returns-2
 unfolding mergeRow
 returns-2 c = let b = c .before .before in
-    rw (c .rebuilt-row2 .ensures, b .before .if1 .left, sym (b .ranks-below .ensures) ∙ c .before .if2 .taken)
+    rw (c .fetched-row2 .ensures, b .before .if1 .left, sym (b .ranks-below .ensures) ∙ c .before .if2 .taken)
 
 ranks-below-requires-2 : tie.Need-ranks-below-requires-2
 ranks-below-requires-2 c κs = search needs
@@ -54,10 +54,10 @@ pub merge-row-spec : {M : Type 1} → statement M
 merge-row-spec =
     tie.close
     (tie.spec
-    rebuilt-row-requires
+    fetched-row-requires
     returns
     ranks-below-requires
-    rebuilt-row-requires-2
+    fetched-row-requires-2
     returns-2
     ranks-below-requires-2
     returns-3
