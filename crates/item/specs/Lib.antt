@@ -3,3 +3,4 @@ pub mod Counter
 pub mod Item
 pub mod Row
 pub mod Tests
+pub mod Laws

@@ -4,10 +4,24 @@
 ghost use mathlib.Core.Path.{_≡_};
 ghost use Rattle.item.specs.Counter.{indexBelow, indexAtLargest, nextIndex, sameIncarnation, incarnationAtLargest, nextIncarnation, sameAttempt, attemptAtLargest, nextAttempt, earlier};
 ghost use Rattle.item.specs.Item.{tagsAgree, ranksBelow, sameItem, zeroItem};
+ghost use Rattle.item.specs.Maxima.{validSize};
 ghost use Rattle.item.specs.Row.{sameRow, zeroRow};
 
 // The most nodes that a group may have, and so the rows that a node keeps.
 pub const MAX_NODES: usize = 15;
+
+// Whether a group may have n nodes: n is odd, and from 3 to the most.
+pub fn valid_size(n: usize) -> bool
+    ensures { λ r. ⌜ r ≡ validSize n ⌝ }
+{
+    if n < 3 {
+        return false;
+    }
+    if MAX_NODES < n {
+        return false;
+    }
+    n % 2 == 1
+}
 
 // The number of a write. An index, an incarnation and an attempt are separate counters.
 pub struct Index(pub u64);
@@ -37,80 +51,86 @@ pub struct Row {
 }
 
 impl Index {
-    // Whether this index is below the other.
-    pub fn below(self, other: Index) -> bool
-        ensures { λ r. ⌜ r ≡ indexBelow self other ⌝ }
+    pub const LARGEST: u64 = 18446744073709551615;
+
+    // Whether this index is below the index.
+    pub fn below(self, index: Index) -> bool
+        ensures { λ r. ⌜ r ≡ indexBelow self index ⌝ }
     {
-        self.0 < other.0
+        self.0 < index.0
     }
 
     // Whether no index is above this one.
     pub fn at_largest(self) -> bool
         ensures { λ r. ⌜ r ≡ indexAtLargest self ⌝ }
     {
-        self.0 == 18446744073709551615
+        self.0 == Index::LARGEST
     }
 
     // The index one above; the largest stays.
     pub fn next(self) -> Index
         ensures { λ r. ⌜ r ≡ nextIndex self ⌝ }
     {
-        if self.0 == 18446744073709551615 {
-            return self;
+        if self.0 != Index::LARGEST {
+            return Index(self.0 + 1);
         }
-        Index(self.0 + 1)
+        self
     }
 }
 
 impl Incarnation {
+    pub const LARGEST: u32 = 4294967295;
+
     // Whether the two are equal.
-    pub fn same(self, other: Incarnation) -> bool
-        ensures { λ r. ⌜ r ≡ sameIncarnation self other ⌝ }
+    pub fn same(self, incarnation: Incarnation) -> bool
+        ensures { λ r. ⌜ r ≡ sameIncarnation self incarnation ⌝ }
     {
-        self.0 == other.0
+        self.0 == incarnation.0
     }
 
     // Whether no incarnation is above this one.
     pub fn at_largest(self) -> bool
         ensures { λ r. ⌜ r ≡ incarnationAtLargest self ⌝ }
     {
-        self.0 == 4294967295
+        self.0 == Incarnation::LARGEST
     }
 
     // The incarnation one above; the largest stays.
     pub fn next(self) -> Incarnation
         ensures { λ r. ⌜ r ≡ nextIncarnation self ⌝ }
     {
-        if self.0 == 4294967295 {
-            return self;
+        if self.0 != Incarnation::LARGEST {
+            return Incarnation(self.0 + 1);
         }
-        Incarnation(self.0 + 1)
+        self
     }
 }
 
 impl Attempt {
+    pub const LARGEST: u32 = 4294967295;
+
     // Whether the two are equal.
-    pub fn same(self, other: Attempt) -> bool
-        ensures { λ r. ⌜ r ≡ sameAttempt self other ⌝ }
+    pub fn same(self, attempt: Attempt) -> bool
+        ensures { λ r. ⌜ r ≡ sameAttempt self attempt ⌝ }
     {
-        self.0 == other.0
+        self.0 == attempt.0
     }
 
     // Whether no attempt is above this one.
     pub fn at_largest(self) -> bool
         ensures { λ r. ⌜ r ≡ attemptAtLargest self ⌝ }
     {
-        self.0 == 4294967295
+        self.0 == Attempt::LARGEST
     }
 
     // The attempt one above; the largest stays.
     pub fn next(self) -> Attempt
         ensures { λ r. ⌜ r ≡ nextAttempt self ⌝ }
     {
-        if self.0 == 4294967295 {
-            return self;
+        if self.0 != Attempt::LARGEST {
+            return Attempt(self.0 + 1);
         }
-        Attempt(self.0 + 1)
+        self
     }
 }
 
@@ -137,10 +157,10 @@ impl Tag {
     pub const SIZE: usize = 8;
 
     // Whether the two tags are equal.
-    pub fn agrees(self, other: Tag) -> bool
-        ensures { λ r. ⌜ r ≡ tagsAgree self other ⌝ }
+    pub fn agrees(self, tag: Tag) -> bool
+        ensures { λ r. ⌜ r ≡ tagsAgree self tag ⌝ }
     {
-        self.0 == other.0
+        self.0 == tag.0
     }
 }
 
@@ -155,21 +175,21 @@ impl Item {
         }
     }
 
-    // Whether this item ranks below the other. Items rank by their index.
-    pub fn ranks_below(self, other: Item) -> bool
-        ensures { λ r. ⌜ r ≡ ranksBelow self other ⌝ }
+    // Whether this item ranks below the item. Items rank by their index.
+    pub fn ranks_below(self, item: Item) -> bool
+        ensures { λ r. ⌜ r ≡ ranksBelow self item ⌝ }
     {
-        self.index.below(other.index)
+        self.index.below(item.index)
     }
 
     // Whether the two items are equal, tags included.
-    pub fn same(self, other: Item) -> bool
-        ensures { λ r. ⌜ r ≡ sameItem self other ⌝ }
+    pub fn same(self, item: Item) -> bool
+        ensures { λ r. ⌜ r ≡ sameItem self item ⌝ }
     {
-        if self.index.0 != other.index.0 {
+        if self.index.0 != item.index.0 {
             return false;
         }
-        self.tag.agrees(other.tag)
+        self.tag.agrees(item.tag)
     }
 }
 
@@ -187,18 +207,18 @@ impl Row {
     }
 
     // Whether the two rows are equal in every field.
-    pub fn same(self, other: Row) -> bool
-        ensures { λ r. ⌜ r ≡ sameRow self other ⌝ }
+    pub fn same(self, row: Row) -> bool
+        ensures { λ r. ⌜ r ≡ sameRow self row ⌝ }
     {
-        if !self.item.same(other.item) {
+        if !self.item.same(row.item) {
             return false;
         }
-        if !self.incarnation.same(other.incarnation) {
+        if !self.incarnation.same(row.incarnation) {
             return false;
         }
-        if !self.attempt.same(other.attempt) {
+        if !self.attempt.same(row.attempt) {
             return false;
         }
-        self.marked == other.marked
+        self.marked == row.marked
     }
 }

@@ -15,20 +15,7 @@ use protocol::RowUse;
 use protocol::Stage;
 ghost use mathlib.Core.Path.{_≡_};
 ghost use Rattle.protocol.specs.declared.Phase.the-variants.{Fetching};
-ghost use Rattle.protocol.specs.Sound.{validSize, everyFrom, rowUse, rowFits, rowSound, peerSound, stageCounts, phaseCounts, attemptFits, amongAsked, countedAsked, rowsSound, peersSound, soundNode};
-
-// Whether a group may have n nodes.
-pub fn valid_size(n: usize) -> bool
-    ensures { λ r. ⌜ r ≡ validSize n ⌝ }
-{
-    if n < 3 {
-        return false;
-    }
-    if Node::MAX_NODES < n {
-        return false;
-    }
-    n % 2 == 1
-}
+ghost use Rattle.protocol.specs.Sound.{everyFrom, rowUse, rowFits, rowSound, peerSound, stageCounts, phaseCounts, attemptFits, amongAsked, countedAsked, rowsSound, peersSound, soundNode};
 
 // Whether the node is sound at this place of the table of a group of n.
 pub fn node_sound(n: usize, place: usize, node: Node) -> bool

@@ -1,6 +1,6 @@
 -- `engine::deliver` meets its contract: an arm for each kind, and each is one call.
-use Rattle.protocol.specs.Deliver.{deliverStep, onMessage}
 use borrow.Author.Needs.{needs}
+use Rattle.protocol.specs.Deliver.{deliverStep, onMessage}
 use Rattle.engine.proofs.deliver.Statement.{statement}
 use Rattle.engine.proofs.deliver.Tie as tie
 

@@ -1,6 +1,6 @@
 -- `engine::refusal_number` meets its contract: an arm for each refusal.
-use Rattle.protocol.specs.Answer.{refusalNumber}
 use borrow.Author.Needs.{needs}
+use Rattle.protocol.specs.Answer.{refusalNumber}
 use Rattle.engine.proofs.refusal_number.Statement.{statement}
 use Rattle.engine.proofs.refusal_number.Tie as tie
 

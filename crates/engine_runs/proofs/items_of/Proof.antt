@@ -1,14 +1,15 @@
 -- `engine_runs::items_of` is safe and ends: i goes up to the number of rows.
 use Prim.Native.Nat.{_≤_, _-_}
 use borrow.Author.Needs.{needs}
+use Rattle.item.specs.Maxima.{maxNodes}
 use Rattle.engine_runs.proofs.items_of.Statement.{statement}
 use Rattle.engine_runs.proofs.items_of.Tie as tie
 
 abbrev Inv-loop : tie.InvT-loop
-Inv-loop rows items₀ i₀ items i = i ≤ 15
+Inv-loop rows items₀ i₀ items i = i ≤ maxNodes
 
 abbrev μ-loop : tie.MeasureT-loop
-μ-loop rows items₀ i₀ items i = 15 - i
+μ-loop rows items₀ i₀ items i = maxNodes - i
 
 zero-requires : tie.Need-zero-requires Inv-loop μ-loop
 zero-requires c κs = search needs

@@ -1,6 +1,6 @@
 -- `fetching::has_conflict` meets its contract: one comparison with the lowest marked row.
-use Rattle.protocol.specs.Fetching.{hasConflict}
 use borrow.Author.Needs.{needs}
+use Rattle.protocol.specs.Fetching.{hasConflict}
 use Rattle.fetching.proofs.has_conflict.Statement.{statement}
 use Rattle.fetching.proofs.has_conflict.Tie as tie
 

@@ -1,7 +1,7 @@
 -- `fetching::node_recover` meets its contract: the test of the definition, and the call of each case.
 use mathlib.Core.Path.{_∙_, sym}
-use Rattle.protocol.specs.Fetching.{nodeRecover}
 use borrow.Author.Needs.{needs}
+use Rattle.protocol.specs.Fetching.{nodeRecover}
 use Rattle.fetching.proofs.node_recover.Statement.{statement}
 use Rattle.fetching.proofs.node_recover.Tie as tie
 
@@ -23,8 +23,13 @@ send-store-requires c κs = search needs
 
 returns-2 : tie.Need-returns-2
 unfolding nodeRecover
-returns-2 c = let b = c .before .before in
-    rw (c .send-store .ensures, c .before .written-back .ensures, sym (b .before .has-conflict .ensures) ∙ b .if1 .left)
+returns-2 c =
+    let b = c .before .before in
+    rw (
+      c .send-store .ensures,
+      c .before .written-back .ensures,
+      sym (b .before .has-conflict .ensures) ∙ b .if1 .left,
+    )
 
 pub node-recover-spec : {M : Type 1} → statement M
 node-recover-spec =

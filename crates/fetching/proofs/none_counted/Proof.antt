@@ -1,6 +1,6 @@
 -- `fetching::none_counted` meets its contract: one comparison of the count.
-use Rattle.protocol.specs.Fetching.{noneCounted}
 use borrow.Author.Needs.{needs}
+use Rattle.protocol.specs.Fetching.{noneCounted}
 use Rattle.fetching.proofs.none_counted.Statement.{statement}
 use Rattle.fetching.proofs.none_counted.Tie as tie
 

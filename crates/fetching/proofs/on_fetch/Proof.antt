@@ -1,7 +1,7 @@
 -- `fetching::on_fetch` meets its contract: the test of the definition.
+use borrow.Author.Needs.{needs}
 use Rattle.item.specs.Tests.{refuted, granted}
 use Rattle.protocol.specs.Fetching.{onFetch}
-use borrow.Author.Needs.{needs}
 use Rattle.fetching.proofs.on_fetch.Statement.{statement}
 use Rattle.fetching.proofs.on_fetch.Tie as tie
 

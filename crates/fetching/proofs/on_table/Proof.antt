@@ -1,8 +1,8 @@
 -- `fetching::on_table` meets its contract: the tests of the definition, in its order.
 use mathlib.Core.Path.{_∙_, sym}
+use borrow.Author.Needs.{needs}
 use Rattle.item.specs.Tests.{refuted, granted}
 use Rattle.protocol.specs.Fetching.{onTable}
-use borrow.Author.Needs.{needs}
 use Rattle.fetching.proofs.on_table.Statement.{statement}
 use Rattle.fetching.proofs.on_table.Tie as tie
 
@@ -24,7 +24,8 @@ refused-requires-2 c κs = search needs
 
 returns-2 : tie.Need-returns-2
 unfolding onTable
-returns-2 c = let s = c .before .before in
+returns-2 c =
+    let s = c .before .before in
     rw (
       c .refused2 .ensures,
       granted (s .before .before .is-fetching .ensures) (s .before .if1 .left),
@@ -39,7 +40,8 @@ refused-requires-3 c κs = search needs
 
 returns-3 : tie.Need-returns-3
 unfolding onTable
-returns-3 c = let k = c .before .before in
+returns-3 c =
+    let k = c .before .before in
     let s = k .before .before in
     rw (
       c .refused3 .ensures,
@@ -56,7 +58,8 @@ table-counted-requires c κs = search needs
 
 returns-4 : tie.Need-returns-4
 unfolding onTable
-returns-4 c = let k = c .before .before .before in
+returns-4 c =
+    let k = c .before .before .before in
     let s = k .before .before in
     rw (
       c .table-counted .ensures,

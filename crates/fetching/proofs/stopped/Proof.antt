@@ -1,6 +1,6 @@
 -- `fetching::stopped` meets its contract: the row and the node are those of the two calls.
-use Rattle.protocol.specs.Fetching.{stopped}
 use borrow.Author.Needs.{needs}
+use Rattle.protocol.specs.Fetching.{stopped}
 use Rattle.fetching.proofs.stopped.Statement.{statement}
 use Rattle.fetching.proofs.stopped.Tie as tie
 

@@ -1,10 +1,10 @@
 -- `fetching::table_counted` meets its contract: `count <= f` is the definition's `count < f + 1`.
-use Rattle.protocol.specs.Node.{half, countPeers}
 use Prim.Native.Nat.{suc}
 use native.Mathlib.Omega.{arith}
 use borrow.Author.Tests.{lt-ltb, le-ltb}
-use Rattle.protocol.specs.Fetching.{tableCounted}
 use borrow.Author.Needs.{needs}
+use Rattle.protocol.specs.Node.{half, countPeers}
+use Rattle.protocol.specs.Fetching.{tableCounted}
 use Rattle.fetching.proofs.table_counted.Statement.{statement}
 use Rattle.fetching.proofs.table_counted.Tie as tie
 
@@ -19,18 +19,26 @@ ok-requires c κs = search needs
 
 returns : tie.Need-returns
 unfolding tableCounted
-returns c = let h = c .before .before in
+returns c =
+    let h = c .before .before in
     let node = h .before .before .before .args .node in
-    rw (c .ok .ensures, lt-ltb (countPeers (node .counted)) (suc (half (node .n))) (omega (arith, c .before .if1 .taken, h .half .ensures, h .before .count-peers .ensures)))
+    rw (
+      c .ok .ensures,
+      lt-ltb (countPeers (node .counted)) (suc (half (node .n))) (omega (arith, c .before .if1 .taken, h .half .ensures, h .before .count-peers .ensures)),
+    )
 
 node-recover-requires : tie.Need-node-recover-requires
 node-recover-requires c κs = search needs
 
 returns-2 : tie.Need-returns-2
 unfolding tableCounted
-returns-2 c = let h = c .before .before in
+returns-2 c =
+    let h = c .before .before in
     let node = h .before .before .before .args .node in
-    rw (c .node-recover .ensures, le-ltb (countPeers (node .counted)) (suc (half (node .n))) (omega (arith, c .before .if1 .left, h .half .ensures, h .before .count-peers .ensures)))
+    rw (
+      c .node-recover .ensures,
+      le-ltb (countPeers (node .counted)) (suc (half (node .n))) (omega (arith, c .before .if1 .left, h .half .ensures, h .before .count-peers .ensures)),
+    )
 
 pub table-counted-spec : {M : Type 1} → statement M
 table-counted-spec =

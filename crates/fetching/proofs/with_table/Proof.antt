@@ -1,6 +1,6 @@
 -- `fetching::with_table` meets its contract: it is the calls.
-use Rattle.protocol.specs.Fetching.{withTable}
 use borrow.Author.Needs.{needs}
+use Rattle.protocol.specs.Fetching.{withTable}
 use Rattle.fetching.proofs.with_table.Statement.{statement}
 use Rattle.fetching.proofs.with_table.Tie as tie
 
@@ -18,7 +18,13 @@ with-counted-requires c κs = search needs
 
 returns : tie.Need-returns
 unfolding withTable
-returns c = rw (c .with-counted .ensures, c .before .with-rows .ensures, c .before .before .merge-rows .ensures, c .before .before .before .none-counted .ensures)
+returns c =
+    rw (
+      c .with-counted .ensures,
+      c .before .with-rows .ensures,
+      c .before .before .merge-rows .ensures,
+      c .before .before .before .none-counted .ensures,
+    )
 
 pub with-table-spec : {M : Type 1} → statement M
 with-table-spec =

@@ -1,6 +1,6 @@
 -- `fetching::written_back` meets its contract: it is the calls.
-use Rattle.protocol.specs.Fetching.{writtenBack}
 use borrow.Author.Needs.{needs}
+use Rattle.protocol.specs.Fetching.{writtenBack}
 use Rattle.fetching.proofs.written_back.Statement.{statement}
 use Rattle.fetching.proofs.written_back.Tie as tie
 

@@ -1,20 +1,21 @@
 -- `merging::lowest_marked` meets its contract: at place k the answer is k and what the rows from k on give.
-use Rattle.merging.proofs.Marks.{lowest-here, lowest-next, lowest-none}
-use Rattle.node.proofs.Array.{length-mapped}
-use Rattle.protocol.specs.Merge.{lowestMarked}
-use lib.ListN.{length, drop}
+use Prim.Native.Nat.{_≤_, _-_, _+_}
 use mathlib.Core.Path.{_≡_}
-use Prim.Native.Nat.{ℕ, _≤_, _-_, _+_}
+use lib.ListN.{length, drop}
 use native.Mathlib.Omega.{arith}
 use borrow.Author.Needs.{needs}
+use Rattle.item.specs.Maxima.{maxNodes}
+use Rattle.protocol.specs.Merge.{lowestMarked}
+use Rattle.node.proofs.Array.{length-mapped}
+use Rattle.merging.proofs.Marks.{lowest-here, lowest-next, lowest-none}
 use Rattle.merging.proofs.lowest_marked.Statement.{statement}
 use Rattle.merging.proofs.lowest_marked.Tie as tie
 
 abbrev Inv-loop : tie.InvT-loop
-Inv-loop rows k₀ k = (k ≤ 15) × (length rows ≡ 15) × (lowestMarked rows ≡ k + lowestMarked (drop k rows))
+Inv-loop rows k₀ k = (k ≤ maxNodes) × (length rows ≡ maxNodes) × (lowestMarked rows ≡ k + lowestMarked (drop k rows))
 
 abbrev μ-loop : tie.MeasureT-loop
-μ-loop rows k₀ k = 15 - k
+μ-loop rows k₀ k = maxNodes - k
 
 loop-holds : tie.Need-loop-holds Inv-loop μ-loop
 loop-holds c = (omega arith, search length-mapped, omega arith)
@@ -32,17 +33,20 @@ loop-less : tie.Need-loop-less Inv-loop μ-loop
 loop-less c = search needs
 
 loop-again : tie.Need-loop-again Inv-loop μ-loop
-loop-again c = let rows = c .before .before .before .args .t1 in
+loop-again c =
+    let rows = c .before .before .before .args .t1 in
     let k = c .before .before .loop .k in
     (omega arith, search needs, omega (arith, lowest-next rows k (omega arith) (c .if2 .left)))
 
 returns : tie.Need-returns Inv-loop μ-loop
-returns c = let rows = c .before .before .args .t1 in
+returns c =
+    let rows = c .before .before .args .t1 in
     let k = c .before .loop .k in
     omega (arith, lowest-none rows k (omega arith))
 
 returns-2 : tie.Need-returns-2 Inv-loop μ-loop
-returns-2 c = let rows = c .before .before .before .args .t1 in
+returns-2 c =
+    let rows = c .before .before .before .args .t1 in
     let k = c .before .before .loop .k in
     omega (arith, lowest-here rows k (omega arith) (c .if2 .taken))
 

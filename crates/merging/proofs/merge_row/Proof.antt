@@ -1,7 +1,7 @@
 -- `merging::merge_row` meets its contract: the tests of the definition, in its order.
 use mathlib.Core.Path.{_∙_, sym}
-use Rattle.protocol.specs.Merge.{mergeRow}
 use borrow.Author.Needs.{needs}
+use Rattle.protocol.specs.Merge.{mergeRow}
 use Rattle.merging.proofs.merge_row.Statement.{statement}
 use Rattle.merging.proofs.merge_row.Tie as tie
 
@@ -20,7 +20,8 @@ fetched-row-requires-2 c κs = search needs
 
 returns-2 : tie.Need-returns-2
 unfolding mergeRow
-returns-2 c = let b = c .before .before in
+returns-2 c =
+    let b = c .before .before in
     rw (c .fetched-row2 .ensures, b .before .if1 .left, sym (b .ranks-below .ensures) ∙ c .before .if2 .taken)
 
 ranks-below-requires-2 : tie.Need-ranks-below-requires-2
@@ -28,27 +29,45 @@ ranks-below-requires-2 c κs = search needs
 
 returns-3 : tie.Need-returns-3
 unfolding mergeRow
-returns-3 c = let b = c .before .before .before in
-    rw (b .before .if1 .left, sym (b .ranks-below .ensures) ∙ c .before .before .if2 .left, sym (c .before .ranks-below2 .ensures) ∙ c .if3 .taken)
+returns-3 c =
+    let b = c .before .before .before in
+    rw (
+      b .before .if1 .left,
+      sym (b .ranks-below .ensures) ∙ c .before .before .if2 .left,
+      sym (c .before .ranks-below2 .ensures) ∙ c .if3 .taken,
+    )
 
 same-requires : tie.Need-same-requires
 same-requires c κs = search needs
 
 returns-4 : tie.Need-returns-4
 unfolding mergeRow
-returns-4 c = let d = c .before .before .before in
+returns-4 c =
+    let d = c .before .before .before in
     let b = d .before .before in
-    rw (b .before .if1 .left, sym (b .ranks-below .ensures) ∙ d .before .if2 .left, sym (d .ranks-below2 .ensures) ∙ c .before .before .if3 .left, sym (c .before .same .ensures) ∙ c .if4 .taken)
+    rw (
+      b .before .if1 .left,
+      sym (b .ranks-below .ensures) ∙ d .before .if2 .left,
+      sym (d .ranks-below2 .ensures) ∙ c .before .before .if3 .left,
+      sym (c .before .same .ensures) ∙ c .if4 .taken,
+    )
 
 marked-row-requires : tie.Need-marked-row-requires
 marked-row-requires c κs = search needs
 
 returns-5 : tie.Need-returns-5
 unfolding mergeRow
-returns-5 c = let e = c .before .before in
+returns-5 c =
+    let e = c .before .before in
     let d = e .before .before in
     let b = d .before .before in
-    rw (c .marked-row .ensures, b .before .if1 .left, sym (b .ranks-below .ensures) ∙ d .before .if2 .left, sym (d .ranks-below2 .ensures) ∙ e .before .if3 .left, sym (e .same .ensures) ∙ c .before .if4 .left)
+    rw (
+      c .marked-row .ensures,
+      b .before .if1 .left,
+      sym (b .ranks-below .ensures) ∙ d .before .if2 .left,
+      sym (d .ranks-below2 .ensures) ∙ e .before .if3 .left,
+      sym (e .same .ensures) ∙ c .before .if4 .left,
+    )
 
 pub merge-row-spec : {M : Type 1} → statement M
 merge-row-spec =

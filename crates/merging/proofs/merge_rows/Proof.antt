@@ -1,22 +1,23 @@
 -- `merging::merge_rows` meets its contract: after i turns the first i rows are merged, and the others as they were.
-use Rattle.merging.proofs.Merge.{mergedTo, merged-turn, merged-all}
-use Rattle.node.proofs.Array.{length-mapped}
-use Rattle.item.specs.Row.{zeroRow}
-use Rattle.item.specs.Item.{zeroItem}
-use lib.ListN.{length}
+use Prim.Native.Nat.{_≤_, _-_}
 use mathlib.Core.Path.{_≡_, refl}
-use Prim.Native.Nat.{ℕ, _≤_, _-_}
+use lib.ListN.{length}
 use native.Mathlib.Omega.{arith}
 use borrow.Author.Needs.{needs}
+use Rattle.item.specs.Maxima.{maxNodes}
+use Rattle.item.specs.Row.{zeroRow}
+use Rattle.item.specs.Item.{zeroItem}
+use Rattle.node.proofs.Array.{length-mapped}
+use Rattle.merging.proofs.Merge.{mergedTo, merged-turn, merged-all}
 use Rattle.merging.proofs.merge_rows.Statement.{statement}
 use Rattle.merging.proofs.merge_rows.Tie as tie
 
 abbrev Inv-loop : tie.InvT-loop
 Inv-loop first items next₀ i₀ next i =
-    (i ≤ 15) × (length next₀ ≡ 15) × (length items ≡ 15) × (next ≡ mergedTo first i next₀ items)
+    (i ≤ maxNodes) × (length next₀ ≡ maxNodes) × (length items ≡ maxNodes) × (next ≡ mergedTo first i next₀ items)
 
 abbrev μ-loop : tie.MeasureT-loop
-μ-loop first items next₀ i₀ next i = 15 - i
+μ-loop first items next₀ i₀ next i = maxNodes - i
 
 loop-holds : tie.Need-loop-holds Inv-loop μ-loop
 unfolding mergedTo
@@ -50,19 +51,25 @@ loop-less : tie.Need-loop-less Inv-loop μ-loop
 loop-less c = search needs
 
 loop-again : tie.Need-loop-again Inv-loop μ-loop
-loop-again c = let l = c .before .before .before .before .loop in
+loop-again c =
+    let l = c .before .before .before .before .loop in
     let a = c .before .before .before .before .before .args in (
       omega arith,
       l .inv .1,
       l .inv .2,
-      rw (c .merge-row .ensures, l .inv .3, merged-turn (a .first) (l .i) (a .rows) (a .t3) zeroRow zeroItem (omega arith) (omega arith)),
+      rw (
+        c .merge-row .ensures,
+        l .inv .3,
+        merged-turn (a .first) (l .i) (a .rows) (a .t3) zeroRow zeroItem (omega arith) (omega arith),
+      ),
     )
 
 returns : tie.Need-returns Inv-loop μ-loop
-returns c = let l = c .before .loop in
+returns c =
+    let l = c .before .loop in
     let a = c .before .before .args in
-    let e : l .i ≡ 15 = omega arith in
-    rw (l .inv .3, e, merged-all (a .first) 15 (a .rows) (a .t3) (l .inv .1) (l .inv .2))
+    let e : l .i ≡ maxNodes = omega arith in
+    rw (l .inv .3, e, merged-all (a .first) maxNodes (a .rows) (a .t3) (l .inv .1) (l .inv .2))
 
 pub merge-rows-spec : {M : Type 1} → statement M
 merge-rows-spec =

@@ -1,24 +1,24 @@
 -- `soundness::all_among_asked` meets its contract: at place k the counted from k on tell the answer.
-use Rattle.soundness.proofs.Every.{every-passes, every-fails, every-passed}
-use Rattle.node.proofs.Array.{length-mapped}
+use Prim.Native.Nat.{_≤_, _-_}
+use mathlib.Core.Path.{_≡_, refl, _∙_}
+use lib.ListN.{length, drop}
+use native.Mathlib.Omega.{arith}
+use borrow.Author.Needs.{needs}
+use Rattle.item.specs.Maxima.{maxNodes}
 use Rattle.item.specs.Tests.{refuted, granted}
 use Rattle.protocol.specs.Node.{noPeer}
 use Rattle.protocol.specs.Sound.{everyFrom, amongAsked}
-use lib.ListN.{length, drop}
-use mathlib.Core.Bool.{true, false}
-use mathlib.Core.Path.{_≡_, refl, _∙_}
-use Prim.Native.Nat.{ℕ, _≤_, _-_}
-use native.Mathlib.Omega.{arith}
-use borrow.Author.Needs.{needs}
+use Rattle.node.proofs.Array.{length-mapped}
+use Rattle.soundness.proofs.Every.{every-passes, every-fails, every-passed}
 use Rattle.soundness.proofs.all_among_asked.Statement.{statement}
 use Rattle.soundness.proofs.all_among_asked.Tie as tie
 
 abbrev Inv-loop : tie.InvT-loop
 Inv-loop asked counted k₀ k =
-    (k ≤ 15) × (length counted ≡ 15) × (everyFrom (amongAsked asked) 0 counted ≡ everyFrom (amongAsked asked) k (drop k counted))
+    (k ≤ maxNodes) × (length counted ≡ maxNodes) × (everyFrom (amongAsked asked) 0 counted ≡ everyFrom (amongAsked asked) k (drop k counted))
 
 abbrev μ-loop : tie.MeasureT-loop
-μ-loop asked counted k₀ k = 15 - k
+μ-loop asked counted k₀ k = maxNodes - k
 
 loop-holds : tie.Need-loop-holds Inv-loop μ-loop
 loop-holds c = (omega arith, search length-mapped, refl)
@@ -33,9 +33,13 @@ among-asked-requires : tie.Need-among-asked-requires Inv-loop μ-loop
 among-asked-requires c κs = search needs
 
 returns : tie.Need-returns Inv-loop μ-loop
-returns c = let l = c .before .before .before .before .loop in
+returns c =
+    let l = c .before .before .before .before .loop in
     let a = c .before .before .before .before .before .args in
-    rw (l .inv .2, every-fails (amongAsked (a .asked)) (a .t1) noPeer (l .k) (omega arith) (refuted (c .before .among-asked .ensures) (c .if1 .taken)))
+    rw (
+      l .inv .2,
+      every-fails (amongAsked (a .asked)) (a .t1) noPeer (l .k) (omega arith) (refuted (c .before .among-asked .ensures) (c .if1 .taken)),
+    )
 
 add-k : tie.Need-add-k Inv-loop μ-loop
 add-k c = search needs
@@ -44,7 +48,8 @@ loop-less : tie.Need-loop-less Inv-loop μ-loop
 loop-less c = search needs
 
 loop-again : tie.Need-loop-again Inv-loop μ-loop
-loop-again c = let l = c .before .before .before .before .loop in
+loop-again c =
+    let l = c .before .before .before .before .loop in
     let a = c .before .before .before .before .before .args in (
       omega arith,
       l .inv .1,
@@ -52,7 +57,8 @@ loop-again c = let l = c .before .before .before .before .loop in
     )
 
 returns-2 : tie.Need-returns-2 Inv-loop μ-loop
-returns-2 c = let l = c .before .loop in
+returns-2 c =
+    let l = c .before .loop in
     let a = c .before .before .args in
     rw (l .inv .2, every-passed (amongAsked (a .asked)) (a .t1) noPeer (l .k) (omega arith))
 

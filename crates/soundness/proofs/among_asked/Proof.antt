@@ -1,7 +1,7 @@
 -- `soundness::among_asked` meets its contract: the test of the definition.
 use borrow.Author.Tests.{not-true, not-false}
-use Rattle.protocol.specs.Sound.{amongAsked}
 use borrow.Author.Needs.{needs}
+use Rattle.protocol.specs.Sound.{amongAsked}
 use Rattle.soundness.proofs.among_asked.Statement.{statement}
 use Rattle.soundness.proofs.among_asked.Tie as tie
 
@@ -14,7 +14,11 @@ peer-of-requires c κs = search needs
 
 returns-2 : tie.Need-returns-2
 unfolding amongAsked
-returns-2 c = rw (c .peer-of .ensures, not-false (c .before .before .before .args .peer .present) (c .before .if1 .left))
+returns-2 c =
+    rw (
+      c .peer-of .ensures,
+      not-false (c .before .before .before .args .peer .present) (c .before .if1 .left),
+    )
 
 pub among-asked-spec : {M : Type 1} → statement M
 among-asked-spec = tie.close (tie.spec returns peer-of-requires returns-2)

@@ -1,6 +1,6 @@
 -- `soundness::attempt_fits` meets its contract: an arm for each phase.
-use Rattle.protocol.specs.Sound.{attemptFits}
 use borrow.Author.Needs.{needs}
+use Rattle.protocol.specs.Sound.{attemptFits}
 use Rattle.soundness.proofs.attempt_fits.Statement.{statement}
 use Rattle.soundness.proofs.attempt_fits.Tie as tie
 

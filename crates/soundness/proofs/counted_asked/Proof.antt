@@ -1,7 +1,7 @@
 -- `soundness::counted_asked` meets its contract: the test of the definition.
+use borrow.Author.Needs.{needs}
 use Rattle.item.specs.Tests.{refuted, granted}
 use Rattle.protocol.specs.Sound.{countedAsked}
-use borrow.Author.Needs.{needs}
 use Rattle.soundness.proofs.counted_asked.Statement.{statement}
 use Rattle.soundness.proofs.counted_asked.Tie as tie
 
@@ -17,7 +17,11 @@ all-among-asked-requires c κs = search needs
 
 returns-2 : tie.Need-returns-2
 unfolding countedAsked
-returns-2 c = rw (c .all-among-asked .ensures, granted (c .before .before .is-confirming .ensures) (c .before .if1 .left))
+returns-2 c =
+    rw (
+      c .all-among-asked .ensures,
+      granted (c .before .before .is-confirming .ensures) (c .before .if1 .left),
+    )
 
 pub counted-asked-spec : {M : Type 1} → statement M
 counted-asked-spec =

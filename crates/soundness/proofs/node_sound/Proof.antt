@@ -1,9 +1,9 @@
 -- `soundness::node_sound` meets its contract: an early return for each part that fails, in the order of the definition.
 -- The letters name the calls that answered: t attempt_fits, r rows_sound, k peers_sound of the counted, a of the asked, p phase_counts.
-use Rattle.item.specs.Tests.{refuted, granted}
 use borrow.Author.Tests.{eq-eqb, ne-eqb}
-use Rattle.protocol.specs.Sound.{soundNode}
 use borrow.Author.Needs.{needs}
+use Rattle.item.specs.Tests.{refuted, granted}
+use Rattle.protocol.specs.Sound.{soundNode}
 use Rattle.soundness.proofs.node_sound.Statement.{statement}
 use Rattle.soundness.proofs.node_sound.Tie as tie
 
@@ -20,7 +20,8 @@ attempt-fits-requires c κs = search needs
 
 returns-3 : tie.Need-returns-3
 unfolding soundNode
-returns-3 c = let t = c .before in
+returns-3 c =
+    let t = c .before in
     rw (
       eq-eqb _ _ (t .before .before .before .if1 .left),
       eq-eqb _ _ (t .before .if2 .left),
@@ -32,7 +33,8 @@ rows-sound-requires c κs = search needs
 
 returns-4 : tie.Need-returns-4
 unfolding soundNode
-returns-4 c = let r = c .before in
+returns-4 c =
+    let r = c .before in
     let t = r .before .before in
     rw (
       eq-eqb _ _ (t .before .before .before .if1 .left),
@@ -46,7 +48,8 @@ peers-sound-requires c κs = search needs
 
 returns-5 : tie.Need-returns-5
 unfolding soundNode
-returns-5 c = let k = c .before in
+returns-5 c =
+    let k = c .before in
     let r = k .before .before .before in
     let t = r .before .before in
     rw (
@@ -62,7 +65,8 @@ peers-sound-requires-2 c κs = search needs
 
 returns-6 : tie.Need-returns-6
 unfolding soundNode
-returns-6 c = let a = c .before in
+returns-6 c =
+    let a = c .before in
     let k = a .before .before .before in
     let r = k .before .before .before in
     let t = r .before .before in
@@ -89,7 +93,8 @@ phase-counts-requires c κs = search needs
 
 returns-7 : tie.Need-returns-7
 unfolding soundNode
-returns-7 c = let p = c .before in
+returns-7 c =
+    let p = c .before in
     let a = p .before .before .before .before .before in
     let k = a .before .before .before in
     let r = k .before .before .before in
@@ -110,7 +115,8 @@ counted-asked-requires c κs = search needs
 
 returns-8 : tie.Need-returns-8
 unfolding soundNode
-returns-8 c = let p = c .before .before in
+returns-8 c =
+    let p = c .before .before in
     let a = p .before .before .before .before .before in
     let k = a .before .before .before in
     let r = k .before .before .before in

@@ -1,24 +1,24 @@
 -- `soundness::peers_sound` meets its contract: at place k the peers from k on tell the answer.
-use Rattle.soundness.proofs.Every.{every-passes, every-fails, every-passed}
-use Rattle.node.proofs.Array.{length-mapped}
+use Prim.Native.Nat.{_≤_, _-_}
+use mathlib.Core.Path.{_≡_, refl, _∙_}
+use lib.ListN.{length, drop}
+use native.Mathlib.Omega.{arith}
+use borrow.Author.Needs.{needs}
+use Rattle.item.specs.Maxima.{maxNodes}
 use Rattle.item.specs.Tests.{refuted, granted}
 use Rattle.protocol.specs.Node.{noPeer}
 use Rattle.protocol.specs.Sound.{everyFrom, peerSound, peersSound}
-use lib.ListN.{length, drop}
-use mathlib.Core.Bool.{true, false}
-use mathlib.Core.Path.{_≡_, refl, _∙_}
-use Prim.Native.Nat.{ℕ, _≤_, _-_}
-use native.Mathlib.Omega.{arith}
-use borrow.Author.Needs.{needs}
+use Rattle.node.proofs.Array.{length-mapped}
+use Rattle.soundness.proofs.Every.{every-passes, every-fails, every-passed}
 use Rattle.soundness.proofs.peers_sound.Statement.{statement}
 use Rattle.soundness.proofs.peers_sound.Tie as tie
 
 abbrev Inv-loop : tie.InvT-loop
 Inv-loop number n peers k₀ k =
-    (k ≤ 15) × (length peers ≡ 15) × (everyFrom (peerSound number n) 0 peers ≡ everyFrom (peerSound number n) k (drop k peers))
+    (k ≤ maxNodes) × (length peers ≡ maxNodes) × (everyFrom (peerSound number n) 0 peers ≡ everyFrom (peerSound number n) k (drop k peers))
 
 abbrev μ-loop : tie.MeasureT-loop
-μ-loop number n peers k₀ k = 15 - k
+μ-loop number n peers k₀ k = maxNodes - k
 
 loop-holds : tie.Need-loop-holds Inv-loop μ-loop
 loop-holds c = (omega arith, search length-mapped, refl)
@@ -34,9 +34,13 @@ peer-sound-requires c κs = search needs
 
 returns : tie.Need-returns Inv-loop μ-loop
 unfolding peersSound
-returns c = let l = c .before .before .before .before .loop in
+returns c =
+    let l = c .before .before .before .before .loop in
     let a = c .before .before .before .before .before .args in
-    rw (l .inv .2, every-fails (peerSound (a .number) (a .n)) (a .t3) noPeer (l .k) (omega arith) (refuted (c .before .peer-sound .ensures) (c .if1 .taken)))
+    rw (
+      l .inv .2,
+      every-fails (peerSound (a .number) (a .n)) (a .t3) noPeer (l .k) (omega arith) (refuted (c .before .peer-sound .ensures) (c .if1 .taken)),
+    )
 
 add-k : tie.Need-add-k Inv-loop μ-loop
 add-k c = search needs
@@ -45,7 +49,8 @@ loop-less : tie.Need-loop-less Inv-loop μ-loop
 loop-less c = search needs
 
 loop-again : tie.Need-loop-again Inv-loop μ-loop
-loop-again c = let l = c .before .before .before .before .loop in
+loop-again c =
+    let l = c .before .before .before .before .loop in
     let a = c .before .before .before .before .before .args in (
       omega arith,
       l .inv .1,
@@ -54,7 +59,8 @@ loop-again c = let l = c .before .before .before .before .loop in
 
 returns-2 : tie.Need-returns-2 Inv-loop μ-loop
 unfolding peersSound
-returns-2 c = let l = c .before .loop in
+returns-2 c =
+    let l = c .before .loop in
     let a = c .before .before .args in
     rw (l .inv .2, every-passed (peerSound (a .number) (a .n)) (a .t3) noPeer (l .k) (omega arith))
 

@@ -1,12 +1,12 @@
-use borrow.Author.Tests.{lt-leb}
--- `soundness::phase_counts` meets its contract: an arm for each phase. `counted <= f` is the definition's `counted < f + 1`.
 use Prim.Native.Nat.{suc}
 use native.Mathlib.Omega.{arith}
-use borrow.Author.Tests.{lt-ltb, le-ltb, eq-eqb, ne-eqb}
-use Rattle.protocol.specs.Sound.{phaseCounts}
+use borrow.Author.Tests.{lt-leb, lt-ltb, le-ltb, eq-eqb, ne-eqb}
 use borrow.Author.Needs.{needs}
+use Rattle.protocol.specs.Sound.{phaseCounts}
 use Rattle.soundness.proofs.phase_counts.Statement.{statement}
 use Rattle.soundness.proofs.phase_counts.Tie as tie
+
+-- `soundness::phase_counts` meets its contract: an arm for each phase. `counted <= f` is the definition's `counted < f + 1`.
 
 enum-told : tie.Need-enum-told
 enum-told c = search needs
@@ -36,12 +36,14 @@ returns-2 c = rw (c .before .enum-told .given .1, ne-eqb _ _ (c .if1 .left))
 
 returns-3 : tie.Need-returns-3
 unfolding phaseCounts
-returns-3 c = let a = c .before .before .before .args in
+returns-3 c =
+    let a = c .before .before .before .args in
     rw (c .before .enum-told2 .given .1, lt-ltb (a .counted) (suc (a .f)) (omega arith))
 
 returns-4 : tie.Need-returns-4
 unfolding phaseCounts
-returns-4 c = let a = c .before .before .before .args in
+returns-4 c =
+    let a = c .before .before .before .args in
     rw (c .before .enum-told2 .given .1, lt-leb _ _ (c .if2 .left), le-ltb (a .counted) (suc (a .f)) (omega arith))
 
 returns-5 : tie.Need-returns-5

@@ -1,7 +1,7 @@
 -- `soundness::row_fits` meets its contract: an arm for each use of a row.
+use borrow.Author.Needs.{needs}
 use Rattle.item.specs.Tests.{refuted, granted}
 use Rattle.protocol.specs.Sound.{rowFits}
-use borrow.Author.Needs.{needs}
 use Rattle.soundness.proofs.row_fits.Statement.{statement}
 use Rattle.soundness.proofs.row_fits.Tie as tie
 
@@ -36,7 +36,8 @@ returns-2 c = rw (c .same .ensures, c .before .zero .ensures, c .before .before 
 
 returns-3 : tie.Need-returns-3
 unfolding rowFits
-returns-3 c = let b = c .before .before in
+returns-3 c =
+    let b = c .before .before in
     rw (c .same3 .ensures, b .before .enum-told2 .given .1, granted (b .same2 .ensures) (c .before .if1 .left))
 
 returns-4 : tie.Need-returns-4

@@ -1,7 +1,7 @@
 -- `soundness::row_sound` meets its contract: rows from n on are judged as unused.
 use borrow.Author.Tests.{lt-ltb, le-ltb}
-use Rattle.protocol.specs.Sound.{rowSound}
 use borrow.Author.Needs.{needs}
+use Rattle.protocol.specs.Sound.{rowSound}
 use Rattle.soundness.proofs.row_sound.Statement.{statement}
 use Rattle.soundness.proofs.row_sound.Tie as tie
 

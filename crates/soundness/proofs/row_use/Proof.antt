@@ -1,6 +1,6 @@
 -- `soundness::row_use` meets its contract: an arm for each phase.
-use Rattle.protocol.specs.Sound.{rowUse}
 use borrow.Author.Needs.{needs}
+use Rattle.protocol.specs.Sound.{rowUse}
 use Rattle.soundness.proofs.row_use.Statement.{statement}
 use Rattle.soundness.proofs.row_use.Tie as tie
 

@@ -1,6 +1,6 @@
 -- `soundness::rows_sound` meets its contract: it is the calls.
-use Rattle.protocol.specs.Sound.{rowsSound}
 use borrow.Author.Needs.{needs}
+use Rattle.protocol.specs.Sound.{rowsSound}
 use Rattle.soundness.proofs.rows_sound.Statement.{statement}
 use Rattle.soundness.proofs.rows_sound.Tie as tie
 

@@ -1,7 +1,7 @@
 -- `soundness::stage_counts` meets its contract: an arm for each stage, and the first test of each decides or leaves the second.
 use borrow.Author.Tests.{lt-ltb, le-ltb, eq-eqb, ne-eqb}
-use Rattle.protocol.specs.Sound.{stageCounts}
 use borrow.Author.Needs.{needs}
+use Rattle.protocol.specs.Sound.{stageCounts}
 use Rattle.soundness.proofs.stage_counts.Statement.{statement}
 use Rattle.soundness.proofs.stage_counts.Tie as tie
 

@@ -1,0 +1,158 @@
+-- The laws of the comparisons: a test is true exactly if what it names holds. Proofs above cite these and open no definition.
+use Prim.Native.Nat.{ℕ, suc, _<_, _≤_}
+use native.Mathlib.Omega.{arith}
+use native.Mathlib.Decide.{decLt}
+use mathlib.Core.Path.{_≡_, refl, sym, _∙_}
+use mathlib.Core.Logic.{_⊎_, inl, inr}
+use mathlib.Core.Bool.{Bool, true, false, _&&_, Bool·beq, cond, false≢true}
+use lib.Dec.{ltb, eqb}
+use borrow.Author.Tests.{ltb-true, ltb-false, lt-ltb, le-ltb, eqb-true, eqb-false, eq-eqb, ne-eqb}
+use Rattle.item.specs.Counter.{largest, indexBelow, indexAtLargest, nextIndex, sameIncarnation, incarnationAtLargest, nextIncarnation, sameAttempt, attemptAtLargest, nextAttempt, earlier}
+use Rattle.item.specs.Item.{tagsAgree, ranksBelow, sameItem}
+use Rattle.item.specs.Row.{sameRow}
+use Rattle.item.specs.Tests.{and-left, and-right, and-both, by-cond}
+use Rattle.item.specs.declared.Attempt.{Attempt}
+use Rattle.item.specs.declared.Incarnation.{Incarnation}
+use Rattle.item.specs.declared.Index.{Index}
+use Rattle.item.specs.declared.Item.{Item}
+use Rattle.item.specs.declared.Row.{Row}
+use Rattle.item.specs.declared.Tag.{Tag}
+
+-- an index is below another exactly if its number is
+pub below-less : (i j : Index) → indexBelow i j ≡ true → i .0 < j .0
+unfolding indexBelow
+below-less i j e = ltb-true (i .0) (j .0) e
+
+pub not-below : (i j : Index) → indexBelow i j ≡ false → j .0 ≤ i .0
+unfolding indexBelow
+not-below i j e = ltb-false (i .0) (j .0) e
+
+pub less-below : (i j : Index) → i .0 < j .0 → indexBelow i j ≡ true
+unfolding indexBelow
+less-below i j h = lt-ltb (i .0) (j .0) h
+
+pub below-none : (i j : Index) → j .0 ≤ i .0 → indexBelow i j ≡ false
+unfolding indexBelow
+below-none i j h = le-ltb (i .0) (j .0) h
+
+-- tags agree exactly if they are equal
+pub agree-same : (t u : Tag) → tagsAgree t u ≡ true → t ≡ u
+unfolding tagsAgree
+agree-same t u e = let p : t .0 ≡ u .0 = eqb-true (t .0) (u .0) e in λ k. record { 0 = p k }
+
+pub agree-self : (t : Tag) → tagsAgree t t ≡ true
+unfolding tagsAgree
+agree-self t = eq-eqb (t .0) (t .0) refl
+
+-- incarnations and attempts likewise
+pub same-incarnation : (i j : Incarnation) → sameIncarnation i j ≡ true → i ≡ j
+unfolding sameIncarnation
+same-incarnation i j e = let p : i .0 ≡ j .0 = eqb-true (i .0) (j .0) e in λ k. record { 0 = p k }
+
+pub incarnation-self : (i : Incarnation) → sameIncarnation i i ≡ true
+unfolding sameIncarnation
+incarnation-self i = eq-eqb (i .0) (i .0) refl
+
+pub same-attempt : (a b : Attempt) → sameAttempt a b ≡ true → a ≡ b
+unfolding sameAttempt
+same-attempt a b e = let p : a .0 ≡ b .0 = eqb-true (a .0) (b .0) e in λ k. record { 0 = p k }
+
+pub attempt-self : (a : Attempt) → sameAttempt a a ≡ true
+unfolding sameAttempt
+attempt-self a = eq-eqb (a .0) (a .0) refl
+
+-- two items are the same exactly if they are equal
+pub same-item : (i j : Item) → sameItem i j ≡ true → i ≡ j
+unfolding sameItem
+same-item i j e =
+    let p : i .index .0 ≡ j .index .0 = eqb-true (i .index .0) (j .index .0) (and-left _ _ e) in
+    let q : i .tag ≡ j .tag = agree-same (i .tag) (j .tag) (and-right (eqb (i .index .0) (j .index .0)) _ e) in
+    λ k. record { index = record { 0 = p k }; tag = q k }
+
+pub item-self : (i : Item) → sameItem i i ≡ true
+unfolding sameItem
+item-self i = and-both (eq-eqb (i .index .0) (i .index .0) refl) (agree-self (i .tag))
+
+-- and two rows
+pub same-row : (r s : Row) → sameRow r s ≡ true → r ≡ s
+unfolding sameRow
+same-row r s e =
+    let p : r .item ≡ s .item = same-item (r .item) (s .item) (and-left _ _ e) in
+    let e′ = and-right (sameItem (r .item) (s .item)) _ e in
+    let q : r .incarnation ≡ s .incarnation = same-incarnation (r .incarnation) (s .incarnation) (and-left _ _ e′) in
+    let e″ = and-right (sameIncarnation (r .incarnation) (s .incarnation)) _ e′ in
+    let t : r .attempt ≡ s .attempt = same-attempt (r .attempt) (s .attempt) (and-left _ _ e″) in
+    let m : r .marked ≡ s .marked = beq-same (r .marked) (s .marked) (and-right (sameAttempt (r .attempt) (s .attempt)) _ e″) in
+    λ k. record { item = p k; incarnation = q k; attempt = t k; marked = m k }
+  where
+    beq-same : (a b : Bool) → Bool·beq a b ≡ true → a ≡ b
+    beq-same true true e = refl
+    beq-same true false e = absurd (false≢true e)
+    beq-same false true e = absurd (false≢true e)
+    beq-same false false e = refl
+
+-- ranks: an order in which two items that rank alike have one index
+pub rank-self : (i : Item) → ranksBelow i i ≡ false
+unfolding ranksBelow
+rank-self i = below-none (i .index) (i .index) (omega arith)
+
+pub rank-trans : (i j k : Item) → ranksBelow i j ≡ true → ranksBelow j k ≡ true → ranksBelow i k ≡ true
+unfolding ranksBelow
+rank-trans i j k p q =
+    less-below (i .index) (k .index) (omega (arith, below-less (i .index) (j .index) p, below-less (j .index) (k .index) q))
+
+-- not below is an order too
+pub rank-above-trans : (i j k : Item) → ranksBelow j i ≡ false → ranksBelow k j ≡ false → ranksBelow k i ≡ false
+unfolding ranksBelow
+rank-above-trans i j k p q =
+    below-none (k .index) (i .index) (omega (arith, not-below (j .index) (i .index) p, not-below (k .index) (j .index) q))
+
+pub rank-alike : (i j : Item) → ranksBelow i j ≡ false → ranksBelow j i ≡ false → i .index ≡ j .index
+unfolding ranksBelow
+rank-alike i j p q =
+    let e : i .index .0 ≡ j .index .0 = omega (arith, not-below (i .index) (j .index) p, not-below (j .index) (i .index) q) in
+    λ k. record { 0 = e k }
+
+-- an item ranks below another: then not the other way round
+pub rank-one-way : (i j : Item) → ranksBelow i j ≡ true → ranksBelow j i ≡ false
+unfolding ranksBelow
+rank-one-way i j p = below-none (j .index) (i .index) (omega (arith, below-less (i .index) (j .index) p))
+
+-- ranks follow the index
+pub rank-index : (i j : Item) → ranksBelow j i ≡ false → i .index .0 ≤ j .index .0
+unfolding ranksBelow
+rank-index i j p = not-below (j .index) (i .index) p
+
+pub index-rank : (i j : Item) → i .index .0 < j .index .0 → ranksBelow i j ≡ true
+unfolding ranksBelow
+index-rank i j h = less-below (i .index) (j .index) h
+
+-- a counter that is not at its largest rises by one
+pub next-index : (i : Index) → indexAtLargest i ≡ false → nextIndex i .0 ≡ suc (i .0)
+unfolding nextIndex
+next-index i e = rw e
+
+pub next-incarnation : (i : Incarnation) → incarnationAtLargest i ≡ false → nextIncarnation i .0 ≡ suc (i .0)
+unfolding nextIncarnation
+next-incarnation i e = rw e
+
+pub next-attempt : (a : Attempt) → attemptAtLargest a ≡ false → nextAttempt a .0 ≡ suc (a .0)
+unfolding nextAttempt
+next-attempt a e = rw e
+
+-- "incarnation, then attempt, earlier": what it means in numbers
+pub earlier-is : (i : Incarnation) (a : Attempt) (j : Incarnation) (b : Attempt)
+    → earlier i a j b ≡ true → (i .0 < j .0) ⊎ ((i .0 ≡ j .0) × (a .0 < b .0))
+unfolding earlier
+earlier-is i a j b = by-cond (λ t. t ≡ true → (i .0 < j .0) ⊎ ((i .0 ≡ j .0) × (a .0 < b .0))) (ltb (i .0) (j .0)) _ _
+    (λ e h. inl (ltb-true (i .0) (j .0) e))
+    (λ e. by-cond (λ t. t ≡ true → (i .0 < j .0) ⊎ ((i .0 ≡ j .0) × (a .0 < b .0))) (ltb (j .0) (i .0)) _ _
+    (λ e′ h. absurd (false≢true h))
+    (λ e′ h. inr (omega (arith, ltb-false (i .0) (j .0) e, ltb-false (j .0) (i .0) e′), ltb-true (a .0) (b .0) h)))
+
+pub is-earlier : (i : Incarnation) (a : Attempt) (j : Incarnation) (b : Attempt)
+    → (i .0 < j .0) ⊎ ((i .0 ≡ j .0) × (a .0 < b .0)) → earlier i a j b ≡ true
+unfolding earlier
+is-earlier i a j b (inl h) = rw (lt-ltb (i .0) (j .0) h)
+is-earlier i a j b (inr h) =
+    rw (le-ltb (i .0) (j .0) (omega (arith, h .0)), le-ltb (j .0) (i .0) (omega (arith, h .0)), lt-ltb (a .0) (b .0) (h .1))
