@@ -21,7 +21,7 @@ ghost use mathlib.Core.Path.{_≡_};
 ghost use Rattle.protocol.specs.Answer.{refusalNumber};
 ghost use Rattle.protocol.specs.Deliver.{deliverStep};
 
-// What the node makes of a message, which comes with the rows of a Table (with any others else).
+// What the node makes of a message. `items` are the rows of a Table; the other kinds do not look at them.
 pub fn deliver(node: Node, envelope: Envelope, items: [Item; Node::MAX_ROWS]) -> Step
     ensures { λ r. ⌜ r ≡ deliverStep node envelope items ⌝ }
 {

@@ -30,7 +30,7 @@ ghost use mathlib.Core.Path.{_≡_};
 ghost use Rattle.protocol.specs.Fetching.{onFetch, noneCounted, withTable, hasConflict, writtenBack, nodeRecover, tableCounted, onTable};
 ghost use Rattle.protocol.specs.Fetching as definition;
 
-// Fetch: a node that is Up sends its rows back.
+// Fetch: refused with 9 unless the node is Up; otherwise its rows go back in a Table.
 pub fn on_fetch(node: Node, incarnation: Incarnation) -> Step
     ensures { λ r. ⌜ r ≡ onFetch node incarnation ⌝ }
 {
@@ -41,7 +41,7 @@ pub fn on_fetch(node: Node, incarnation: Incarnation) -> Step
     ok(node, Sends::Back(Message::Table { other: incarnation }))
 }
 
-// Table: a node that is Fetching in the incarnation asked counts the table of each sender once.
+// Table: refused with 9, 10 or 11; otherwise the sender's table is counted.
 pub fn on_table(
     node: Node,
     sender: usize,

@@ -1,5 +1,5 @@
 // Soundness of one node at its place in the table of a group of n: unused fields zero, and who is counted and asked.
-// Everything is proved, no public function has a `requires`, and each gives what one definition of protocol's
+// Everything is proved, the public function has no `requires`, and each function gives what one definition of protocol's
 // specs/Sound says. Any node may be asked about.
 use item::Attempt;
 use item::Incarnation;
