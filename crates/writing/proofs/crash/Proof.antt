@@ -1,29 +1,29 @@
 -- `writing::crash` meets its contract: a refusal of a node that is Down, and the blank node.
-use mathlib.Core.Path.{sym, _∙_}
+use Rattle.node.proofs.Answered.{answered}
 use Rattle.protocol.specs.Write.{crashStep}
 use borrow.Author.Needs.{needs}
 use Rattle.writing.proofs.crash.Statement.{statement}
 use Rattle.writing.proofs.crash.Tie as tie
 
 is-down-requires : tie.Need-is-down-requires
-is-down-requires c κs = search needs
+is-down-requires c κs = tt
 
 refused-requires : tie.Need-refused-requires
-refused-requires c κs = search needs
+refused-requires c κs = tt
 
 returns : tie.Need-returns
 unfolding crashStep
-returns c = rw (c .refused .ensures, sym (c .before .before .is-down .ensures) ∙ c .before .if1 .taken)
+returns c = rw (c .refused .ensures, answered (c .before .before .is-down .ensures) (c .before .if1 .taken))
 
 crashed-requires : tie.Need-crashed-requires
-crashed-requires c κs = search needs
+crashed-requires c κs = tt
 
 ok-requires : tie.Need-ok-requires
-ok-requires c κs = search needs
+ok-requires c κs = tt
 
 returns-2 : tie.Need-returns-2
 unfolding crashStep
-returns-2 c = rw (c .ok .ensures, sym (c .before .before .before .is-down .ensures) ∙ c .before .before .if1 .left, c .before .crashed .ensures)
+returns-2 c = rw (c .ok .ensures, answered (c .before .before .before .is-down .ensures) (c .before .before .if1 .left), c .before .crashed .ensures)
 
 pub crash-spec : {M : Type 1} → statement M
 crash-spec =

@@ -5,7 +5,7 @@ use Rattle.writing.proofs.next_item.Statement.{statement}
 use Rattle.writing.proofs.next_item.Tie as tie
 
 next-requires : tie.Need-next-requires
-next-requires c κs = search needs
+next-requires c κs = tt
 
 returns : tie.Need-returns
 unfolding nextItem

@@ -5,16 +5,16 @@ use Rattle.writing.proofs.retried.Statement.{statement}
 use Rattle.writing.proofs.retried.Tie as tie
 
 at-stage-requires : tie.Need-at-stage-requires
-at-stage-requires c κs = search needs
+at-stage-requires c κs = tt
 
 next-requires : tie.Need-next-requires
-next-requires c κs = search needs
+next-requires c κs = tt
 
 own-item-requires : tie.Need-own-item-requires
-own-item-requires c κs = search needs
+own-item-requires c κs = tt
 
 storing-begun-requires : tie.Need-storing-begun-requires
-storing-begun-requires c κs = search needs
+storing-begun-requires c κs = tt
 
 returns : tie.Need-returns
 unfolding retried

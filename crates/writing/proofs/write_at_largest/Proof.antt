@@ -1,27 +1,27 @@
 -- `writing::write_at_largest` meets its contract: the tests of the definition, in its order.
-use mathlib.Core.Path.{sym, _∙_}
+use Rattle.node.proofs.Answered.{answered}
 use Rattle.protocol.specs.Write.{writeAtLargest}
 use borrow.Author.Needs.{needs}
 use Rattle.writing.proofs.write_at_largest.Statement.{statement}
 use Rattle.writing.proofs.write_at_largest.Tie as tie
 
 own-item-requires : tie.Need-own-item-requires
-own-item-requires c κs = search needs
+own-item-requires c κs = tt
 
 at-largest-requires : tie.Need-at-largest-requires
-at-largest-requires c κs = search needs
+at-largest-requires c κs = tt
 
 returns : tie.Need-returns
 unfolding writeAtLargest
-returns c = rw (← c .before .before .own-item .ensures, sym (c .before .at-largest .ensures) ∙ c .if1 .taken)
+returns c = rw (← c .before .before .own-item .ensures, answered (c .before .at-largest .ensures) (c .if1 .taken))
 
 at-largest-requires-2 : tie.Need-at-largest-requires-2
-at-largest-requires-2 c κs = search needs
+at-largest-requires-2 c κs = tt
 
 returns-2 : tie.Need-returns-2
 unfolding writeAtLargest
 returns-2 c =
-    rw (c .at-largest2 .ensures, ← c .before .before .before .own-item .ensures, sym (c .before .before .at-largest .ensures) ∙ c .before .if1 .left)
+    rw (c .at-largest2 .ensures, ← c .before .before .before .own-item .ensures, answered (c .before .before .at-largest .ensures) (c .before .if1 .left))
 
 pub write-at-largest-spec : {M : Type 1} → statement M
 write-at-largest-spec =

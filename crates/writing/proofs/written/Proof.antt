@@ -5,16 +5,16 @@ use Rattle.writing.proofs.written.Statement.{statement}
 use Rattle.writing.proofs.written.Tie as tie
 
 own-item-requires : tie.Need-own-item-requires
-own-item-requires c κs = search needs
+own-item-requires c κs = tt
 
 next-item-requires : tie.Need-next-item-requires
-next-item-requires c κs = search needs
+next-item-requires c κs = tt
 
 next-requires : tie.Need-next-requires
-next-requires c κs = search needs
+next-requires c κs = tt
 
 storing-begun-requires : tie.Need-storing-begun-requires
-storing-begun-requires c κs = search needs
+storing-begun-requires c κs = tt
 
 returns : tie.Need-returns
 unfolding written

@@ -5,7 +5,7 @@ use Rattle.node.proofs.read.is_counted.Statement.{statement}
 use Rattle.node.proofs.read.is_counted.Tie as tie
 
 peer-of-requires : tie.Need-peer-of-requires
-peer-of-requires c κs = search needs
+peer-of-requires c κs = tt
 
 returns : tie.Need-returns
 unfolding isCounted

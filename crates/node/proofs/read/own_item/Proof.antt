@@ -5,7 +5,7 @@ use Rattle.node.proofs.read.own_item.Statement.{statement}
 use Rattle.node.proofs.read.own_item.Tie as tie
 
 row-of-requires : tie.Need-row-of-requires
-row-of-requires c κs = search needs
+row-of-requires c κs = tt
 
 returns : tie.Need-returns
 unfolding ownItem

@@ -1,5 +1,5 @@
 -- `node::read::peer_of` meets its contract: past the last peer the list of peers gives none.
-use Rattle.node.proofs.Array.{length-mapped, getD-out}
+use Rattle.change.proofs.Array.{length-mapped, getD-out}
 use Rattle.protocol.specs.Node.{peerOf, noPeer}
 use native.Mathlib.Omega.{arith}
 use lib.ListN.{length}
@@ -9,7 +9,7 @@ use Rattle.node.proofs.read.peer_of.Statement.{statement}
 use Rattle.node.proofs.read.peer_of.Tie as tie
 
 none-requires : tie.Need-none-requires
-none-requires c κs = search needs
+none-requires c κs = tt
 
 returns : tie.Need-returns
 unfolding peerOf

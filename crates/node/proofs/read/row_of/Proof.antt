@@ -1,5 +1,5 @@
 -- `node::read::row_of` meets its contract: past the last row the list of rows gives the zero row.
-use Rattle.node.proofs.Array.{length-mapped, getD-out}
+use Rattle.change.proofs.Array.{length-mapped, getD-out}
 use Rattle.item.specs.Row.{zeroRow}
 use Rattle.protocol.specs.Node.{rowOf}
 use native.Mathlib.Omega.{arith}
@@ -10,7 +10,7 @@ use Rattle.node.proofs.read.row_of.Statement.{statement}
 use Rattle.node.proofs.read.row_of.Tie as tie
 
 zero-requires : tie.Need-zero-requires
-zero-requires c κs = search needs
+zero-requires c κs = tt
 
 returns : tie.Need-returns
 unfolding rowOf

@@ -5,7 +5,7 @@ use Rattle.node.proofs.step.send_fetch.Statement.{statement}
 use Rattle.node.proofs.step.send_fetch.Tie as tie
 
 ok-requires : tie.Need-ok-requires
-ok-requires c κs = search needs
+ok-requires c κs = tt
 
 returns : tie.Need-returns
 unfolding sendFetch

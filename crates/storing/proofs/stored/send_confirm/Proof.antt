@@ -5,10 +5,10 @@ use Rattle.storing.proofs.stored.send_confirm.Statement.{statement}
 use Rattle.storing.proofs.stored.send_confirm.Tie as tie
 
 own-item-requires : tie.Need-own-item-requires
-own-item-requires c κs = search needs
+own-item-requires c κs = tt
 
 ok-requires : tie.Need-ok-requires
-ok-requires c κs = search needs
+ok-requires c κs = tt
 
 returns : tie.Need-returns
 unfolding sendConfirm
