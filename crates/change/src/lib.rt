@@ -78,15 +78,15 @@ pub fn with_row(node: Node, i: usize, row: Row) -> Node
     next
 }
 
-// Peer i is counted, under this incarnation; past the last nobody is.
-pub fn with_counted(node: Node, i: usize, incarnation: Incarnation) -> Node
-    ensures { λ r. ⌜ r ≡ withCounted node i incarnation ⌝ }
+// The sender is counted, under this incarnation; past the last nobody is.
+pub fn with_counted(node: Node, sender: usize, incarnation: Incarnation) -> Node
+    ensures { λ r. ⌜ r ≡ withCounted node sender incarnation ⌝ }
 {
-    if Node::MAX_ROWS <= i {
+    if Node::MAX_ROWS <= sender {
         return node;
     }
     let mut next = node;
-    next.counted[i] = Peer {
+    next.counted[sender] = Peer {
         present: true,
         incarnation: incarnation,
     };

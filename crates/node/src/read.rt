@@ -35,14 +35,14 @@ pub fn own_item(node: Node) -> Item
     row.item
 }
 
-// Peer i of those counted, or of those asked; past the last, one that is neither.
-pub fn peer_of(peers: [Peer; Node::MAX_ROWS], i: usize) -> Peer
-    ensures { λ r. ⌜ r ≡ peerOf peers i ⌝ }
+// The peer of this number, of those counted or of those asked; past the last, one that is neither.
+pub fn peer_of(peers: [Peer; Node::MAX_ROWS], number: usize) -> Peer
+    ensures { λ r. ⌜ r ≡ peerOf peers number ⌝ }
 {
-    if Node::MAX_ROWS <= i {
+    if Node::MAX_ROWS <= number {
         return Peer::none();
     }
-    peers[i]
+    peers[number]
 }
 
 // How many peers are counted, or asked.

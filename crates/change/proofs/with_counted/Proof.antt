@@ -14,7 +14,7 @@ unfolding withCounted
 returns c =
     let a = c .before .args in
     let l : length (a .node .counted) ≡ 15 = search length-mapped in
-    rw (set-out (a .node .counted) (a .i) _ (omega arith))
+    rw (set-out (a .node .counted) (a .sender) _ (omega arith))
 
 mul-t7 : tie.Need-mul-t7
 mul-t7 c = search needs

@@ -16,7 +16,7 @@ unfolding peerOf
 returns c =
     let a = c .before .before .args in
     let l : length (a .t1) ≡ 15 = search length-mapped in
-    rw (c .none .ensures, getD-out (a .t1) (a .i) noPeer (omega arith))
+    rw (c .none .ensures, getD-out (a .t1) (a .number) noPeer (omega arith))
 
 mul-result : tie.Need-mul-result
 mul-result c = search needs

@@ -1,9 +1,9 @@
--- `writing::nothing_to_retry` meets its contract: the tests of the definition, in its order.
+-- `writing::again::nothing_to_retry` meets its contract: the tests of the definition, in its order.
 use Rattle.node.proofs.Answered.{answered}
 use Rattle.protocol.specs.Write.{nothingToRetry}
 use borrow.Author.Needs.{needs}
-use Rattle.writing.proofs.nothing_to_retry.Statement.{statement}
-use Rattle.writing.proofs.nothing_to_retry.Tie as tie
+use Rattle.writing.proofs.again.nothing_to_retry.Statement.{statement}
+use Rattle.writing.proofs.again.nothing_to_retry.Tie as tie
 
 is-down-requires : tie.Need-is-down-requires
 is-down-requires c κs = tt

@@ -1,8 +1,8 @@
--- `writing::retried` meets its contract: it is the call, with what the calls before it give.
+-- `writing::again::retried` meets its contract: it is the call, with what the calls before it give.
 use Rattle.protocol.specs.Write.{retried}
 use borrow.Author.Needs.{needs}
-use Rattle.writing.proofs.retried.Statement.{statement}
-use Rattle.writing.proofs.retried.Tie as tie
+use Rattle.writing.proofs.again.retried.Statement.{statement}
+use Rattle.writing.proofs.again.retried.Tie as tie
 
 at-stage-requires : tie.Need-at-stage-requires
 at-stage-requires c κs = tt

@@ -1,10 +1,10 @@
--- `writing::write` meets its contract: a refusal for each test, and Store of the node that the write leaves.
+-- `writing::begin::write` meets its contract: a refusal for each test, and Store of the node that the write leaves.
 use Rattle.item.specs.Tests.{refuted, granted}
 use Rattle.node.proofs.Answered.{answered}
 use Rattle.protocol.specs.Write.{writeStep}
 use borrow.Author.Needs.{needs}
-use Rattle.writing.proofs.write.Statement.{statement}
-use Rattle.writing.proofs.write.Tie as tie
+use Rattle.writing.proofs.begin.write.Statement.{statement}
+use Rattle.writing.proofs.begin.write.Tie as tie
 
 is-up-idle-requires : tie.Need-is-up-idle-requires
 is-up-idle-requires c κs = tt

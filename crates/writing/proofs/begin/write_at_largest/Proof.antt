@@ -1,9 +1,9 @@
--- `writing::write_at_largest` meets its contract: the tests of the definition, in its order.
+-- `writing::begin::write_at_largest` meets its contract: the tests of the definition, in its order.
 use Rattle.node.proofs.Answered.{answered}
 use Rattle.protocol.specs.Write.{writeAtLargest}
 use borrow.Author.Needs.{needs}
-use Rattle.writing.proofs.write_at_largest.Statement.{statement}
-use Rattle.writing.proofs.write_at_largest.Tie as tie
+use Rattle.writing.proofs.begin.write_at_largest.Statement.{statement}
+use Rattle.writing.proofs.begin.write_at_largest.Tie as tie
 
 own-item-requires : tie.Need-own-item-requires
 own-item-requires c κs = tt

@@ -1,8 +1,8 @@
--- `writing::written` meets its contract: it is the call, with what the calls before it give.
+-- `writing::begin::written` meets its contract: it is the call, with what the calls before it give.
 use Rattle.protocol.specs.Write.{written}
 use borrow.Author.Needs.{needs}
-use Rattle.writing.proofs.written.Statement.{statement}
-use Rattle.writing.proofs.written.Tie as tie
+use Rattle.writing.proofs.begin.written.Statement.{statement}
+use Rattle.writing.proofs.begin.written.Tie as tie
 
 own-item-requires : tie.Need-own-item-requires
 own-item-requires c κs = tt

@@ -1,10 +1,10 @@
--- `writing::start` meets its contract: a refusal for each test, and Fetch of the node started.
+-- `writing::restart::start` meets its contract: a refusal for each test, and Fetch of the node started.
 use Rattle.item.specs.Tests.{refuted, granted}
 use Rattle.node.proofs.Answered.{answered}
 use Rattle.protocol.specs.Write.{startStep}
 use borrow.Author.Needs.{needs}
-use Rattle.writing.proofs.start.Statement.{statement}
-use Rattle.writing.proofs.start.Tie as tie
+use Rattle.writing.proofs.restart.start.Statement.{statement}
+use Rattle.writing.proofs.restart.start.Tie as tie
 
 is-down-requires : tie.Need-is-down-requires
 is-down-requires c κs = tt

@@ -1,10 +1,10 @@
--- `writing::retry` meets its contract: a refusal for each test, Fetch again, and Store of the node that the new
+-- `writing::again::retry` meets its contract: a refusal for each test, Fetch again, and Store of the node that the new
 -- attempt leaves.
 use Rattle.node.proofs.Answered.{answered}
 use Rattle.protocol.specs.Write.{retryStep}
 use borrow.Author.Needs.{needs}
-use Rattle.writing.proofs.retry.Statement.{statement}
-use Rattle.writing.proofs.retry.Tie as tie
+use Rattle.writing.proofs.again.retry.Statement.{statement}
+use Rattle.writing.proofs.again.retry.Tie as tie
 
 nothing-to-retry-requires : tie.Need-nothing-to-retry-requires
 nothing-to-retry-requires c κs = tt

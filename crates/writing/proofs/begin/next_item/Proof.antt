@@ -1,8 +1,8 @@
--- `writing::next_item` meets its contract: the index is that of the call.
+-- `writing::begin::next_item` meets its contract: the index is that of the call.
 use Rattle.protocol.specs.Write.{nextItem}
 use borrow.Author.Needs.{needs}
-use Rattle.writing.proofs.next_item.Statement.{statement}
-use Rattle.writing.proofs.next_item.Tie as tie
+use Rattle.writing.proofs.begin.next_item.Statement.{statement}
+use Rattle.writing.proofs.begin.next_item.Tie as tie
 
 next-requires : tie.Need-next-requires
 next-requires c κs = tt
