@@ -1,6 +1,5 @@
 -- `change::confirming_begun` meets its contract: the peers are those of the call.
 use Rattle.protocol.specs.Node.{confirmingBegun}
-use borrow.Author.Needs.{needs}
 use Rattle.change.proofs.confirming_begun.Statement.{statement}
 use Rattle.change.proofs.confirming_begun.Tie as tie
 

@@ -1,6 +1,5 @@
 -- `change::crashed` meets its contract: it is the call.
 use Rattle.protocol.specs.Node.{crashed}
-use borrow.Author.Needs.{needs}
 use Rattle.change.proofs.crashed.Statement.{statement}
 use Rattle.change.proofs.crashed.Tie as tie
 

@@ -1,6 +1,5 @@
 -- `change::fresh_node` meets its contract: a blank node whose write has ended, by the two calls.
 use Rattle.protocol.specs.Node.{freshNode}
-use borrow.Author.Needs.{needs}
 use Rattle.change.proofs.fresh_node.Statement.{statement}
 use Rattle.change.proofs.fresh_node.Tie as tie
 

@@ -1,6 +1,5 @@
 -- `change::started` meets its contract: the incarnation, rows and peers are those of the calls.
 use Rattle.protocol.specs.Node.{started}
-use borrow.Author.Needs.{needs}
 use Rattle.change.proofs.started.Statement.{statement}
 use Rattle.change.proofs.started.Tie as tie
 

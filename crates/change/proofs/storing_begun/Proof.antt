@@ -1,6 +1,5 @@
 -- `change::storing_begun` meets its contract: the rows are those that the call of with_row leaves.
 use Rattle.protocol.specs.Node.{storingBegun, withRow}
-use borrow.Author.Needs.{needs}
 use Rattle.change.proofs.storing_begun.Statement.{statement}
 use Rattle.change.proofs.storing_begun.Tie as tie
 

@@ -4,7 +4,7 @@ use Rattle.protocol.specs.Node.{withCounted}
 use native.Mathlib.Omega.{arith}
 use lib.Seq.{set-out}
 use lib.ListN.{length}
-use mathlib.Core.Path.{_≡_}
+use mathlib.Core.Path.{_≡_, refl}
 use borrow.Author.Needs.{needs}
 use Rattle.change.proofs.with_counted.Statement.{statement}
 use Rattle.change.proofs.with_counted.Tie as tie
@@ -24,7 +24,7 @@ element-set-from-next c = search needs
 
 returns-2 : tie.Need-returns-2
 unfolding withCounted
-returns-2 c = search needs
+returns-2 c = refl
 
 pub with-counted-spec : {M : Type 1} → statement M
 with-counted-spec = tie.close (tie.spec returns mul-t7 element-set-from-next returns-2)

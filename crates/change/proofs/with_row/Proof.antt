@@ -4,7 +4,7 @@ use Rattle.protocol.specs.Node.{withRow}
 use native.Mathlib.Omega.{arith}
 use lib.Seq.{set-out}
 use lib.ListN.{length}
-use mathlib.Core.Path.{_≡_}
+use mathlib.Core.Path.{_≡_, refl}
 use borrow.Author.Needs.{needs}
 use Rattle.change.proofs.with_row.Statement.{statement}
 use Rattle.change.proofs.with_row.Tie as tie
@@ -24,7 +24,7 @@ element-set-from-row c = search needs
 
 returns-2 : tie.Need-returns-2
 unfolding withRow
-returns-2 c = search needs
+returns-2 c = refl
 
 pub with-row-spec : {M : Type 1} → statement M
 with-row-spec = tie.close (tie.spec returns mul-row element-set-from-row returns-2)

@@ -1,6 +1,5 @@
 -- `change::write_ended` meets its contract: the peers are those of the call.
 use Rattle.protocol.specs.Node.{writeEnded}
-use borrow.Author.Needs.{needs}
 use Rattle.change.proofs.write_ended.Statement.{statement}
 use Rattle.change.proofs.write_ended.Tie as tie
 

@@ -1,7 +1,6 @@
 -- `confirming::confirm::on_confirm` meets its contract: a refusal for each test, and Confirmed back.
 use Rattle.item.specs.Tests.{refuted, granted}
 use Rattle.protocol.specs.Storing.{onConfirm}
-use borrow.Author.Needs.{needs}
 use Rattle.confirming.proofs.confirm.on_confirm.Statement.{statement}
 use Rattle.confirming.proofs.confirm.on_confirm.Tie as tie
 

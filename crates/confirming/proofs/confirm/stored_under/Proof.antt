@@ -1,7 +1,6 @@
 -- `confirming::confirm::stored_under` meets its contract: an early return for each part that differs.
 use Rattle.item.specs.Tests.{refuted, granted}
 use Rattle.protocol.specs.Storing.{storedUnder}
-use borrow.Author.Needs.{needs}
 use Rattle.confirming.proofs.confirm.stored_under.Statement.{statement}
 use Rattle.confirming.proofs.confirm.stored_under.Tie as tie
 

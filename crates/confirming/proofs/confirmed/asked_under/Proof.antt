@@ -2,7 +2,6 @@
 -- incarnation.
 use borrow.Author.Tests.{not-true, not-false}
 use Rattle.protocol.specs.Storing.{askedUnder}
-use borrow.Author.Needs.{needs}
 use Rattle.confirming.proofs.confirmed.asked_under.Statement.{statement}
 use Rattle.confirming.proofs.confirmed.asked_under.Tie as tie
 

@@ -1,7 +1,6 @@
 -- `confirming::confirmed::confirmed_counted` meets its contract: the count is held to f, both by calls.
 use borrow.Author.Tests.{lt-ltb, le-ltb}
 use Rattle.protocol.specs.Storing.{confirmedCounted}
-use borrow.Author.Needs.{needs}
 use Rattle.confirming.proofs.confirmed.confirmed_counted.Statement.{statement}
 use Rattle.confirming.proofs.confirmed.confirmed_counted.Tie as tie
 

@@ -1,7 +1,6 @@
 -- `confirming::confirmed::end_answer` meets its contract: one test.
 use Rattle.node.proofs.Answered.{answered}
 use Rattle.protocol.specs.Storing.{endAnswer}
-use borrow.Author.Needs.{needs}
 use Rattle.confirming.proofs.confirmed.end_answer.Statement.{statement}
 use Rattle.confirming.proofs.confirmed.end_answer.Tie as tie
 

@@ -2,7 +2,6 @@
 use Rattle.item.specs.Tests.{refuted, granted}
 use Rattle.node.proofs.Answered.{answered}
 use Rattle.protocol.specs.Storing.{onConfirmed}
-use borrow.Author.Needs.{needs}
 use Rattle.confirming.proofs.confirmed.on_confirmed.Statement.{statement}
 use Rattle.confirming.proofs.confirmed.on_confirmed.Tie as tie
 

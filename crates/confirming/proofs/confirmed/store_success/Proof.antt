@@ -1,6 +1,5 @@
 -- `confirming::confirmed::store_success` meets its contract: the answer and the node are those of the calls.
 use Rattle.protocol.specs.Storing.{storeSuccess}
-use borrow.Author.Needs.{needs}
 use Rattle.confirming.proofs.confirmed.store_success.Statement.{statement}
 use Rattle.confirming.proofs.confirmed.store_success.Tie as tie
 

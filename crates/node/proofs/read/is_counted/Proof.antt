@@ -1,6 +1,5 @@
 -- `node::read::is_counted` meets its contract: what the call gives of the peers counted.
 use Rattle.protocol.specs.Storing.{isCounted}
-use borrow.Author.Needs.{needs}
 use Rattle.node.proofs.read.is_counted.Statement.{statement}
 use Rattle.node.proofs.read.is_counted.Tie as tie
 

@@ -1,6 +1,5 @@
 -- `node::read::own_item` meets its contract: the item of the row that the call gives.
 use Rattle.protocol.specs.Node.{ownItem}
-use borrow.Author.Needs.{needs}
 use Rattle.node.proofs.read.own_item.Statement.{statement}
 use Rattle.node.proofs.read.own_item.Tie as tie
 

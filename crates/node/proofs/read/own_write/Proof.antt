@@ -1,7 +1,6 @@
 -- `node::read::own_write` meets its contract: an early return for each part that differs.
 use Rattle.item.specs.Tests.{refuted, granted}
 use Rattle.protocol.specs.Storing.{ownWrite}
-use borrow.Author.Needs.{needs}
 use Rattle.node.proofs.read.own_write.Statement.{statement}
 use Rattle.node.proofs.read.own_write.Tie as tie
 

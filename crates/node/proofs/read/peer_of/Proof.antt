@@ -3,7 +3,7 @@ use Rattle.change.proofs.Array.{length-mapped, getD-out}
 use Rattle.protocol.specs.Node.{peerOf, noPeer}
 use native.Mathlib.Omega.{arith}
 use lib.ListN.{length}
-use mathlib.Core.Path.{_≡_}
+use mathlib.Core.Path.{_≡_, refl}
 use borrow.Author.Needs.{needs}
 use Rattle.node.proofs.read.peer_of.Statement.{statement}
 use Rattle.node.proofs.read.peer_of.Tie as tie
@@ -26,7 +26,7 @@ array-copy-out-result c = search needs
 
 returns-2 : tie.Need-returns-2
 unfolding peerOf
-returns-2 c = search needs
+returns-2 c = refl
 
 pub peer-of-spec : {M : Type 1} → statement M
 peer-of-spec =

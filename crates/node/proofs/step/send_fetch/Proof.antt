@@ -1,6 +1,5 @@
 -- `node::step::send_fetch` meets its contract: it is the call.
 use Rattle.protocol.specs.Write.{sendFetch}
-use borrow.Author.Needs.{needs}
 use Rattle.node.proofs.step.send_fetch.Statement.{statement}
 use Rattle.node.proofs.step.send_fetch.Tie as tie
 

@@ -1,6 +1,5 @@
 -- `node::step::send_store` meets its contract: the item and the step are those of the calls.
 use Rattle.protocol.specs.Write.{sendStore}
-use borrow.Author.Needs.{needs}
 use Rattle.node.proofs.step.send_store.Statement.{statement}
 use Rattle.node.proofs.step.send_store.Tie as tie
 

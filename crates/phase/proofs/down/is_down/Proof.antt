@@ -1,6 +1,5 @@
 -- `phase::down::is_down` meets its contract: an arm for each phase.
 use Rattle.protocol.specs.Phase.{isDown}
-use borrow.Author.Needs.{needs}
 use Rattle.phase.proofs.down.is_down.Statement.{statement}
 use Rattle.phase.proofs.down.is_down.Tie as tie
 

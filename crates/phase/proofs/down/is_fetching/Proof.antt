@@ -1,6 +1,5 @@
 -- `phase::down::is_fetching` meets its contract: an arm for each phase.
 use Rattle.protocol.specs.Phase.{isFetching}
-use borrow.Author.Needs.{needs}
 use Rattle.phase.proofs.down.is_fetching.Statement.{statement}
 use Rattle.phase.proofs.down.is_fetching.Tie as tie
 

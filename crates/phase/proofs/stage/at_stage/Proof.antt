@@ -1,6 +1,5 @@
 -- `phase::stage::at_stage` meets its contract: an arm for each phase.
 use Rattle.protocol.specs.Phase.{atStage}
-use borrow.Author.Needs.{needs}
 use Rattle.phase.proofs.stage.at_stage.Statement.{statement}
 use Rattle.phase.proofs.stage.at_stage.Tie as tie
 

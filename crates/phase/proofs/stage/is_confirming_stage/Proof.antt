@@ -1,6 +1,5 @@
 -- `phase::stage::is_confirming_stage` meets its contract: an arm for each stage.
 use Rattle.protocol.specs.Phase.{isConfirmingStage}
-use borrow.Author.Needs.{needs}
 use Rattle.phase.proofs.stage.is_confirming_stage.Statement.{statement}
 use Rattle.phase.proofs.stage.is_confirming_stage.Tie as tie
 

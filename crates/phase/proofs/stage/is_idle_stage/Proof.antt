@@ -1,6 +1,5 @@
 -- `phase::stage::is_idle_stage` meets its contract: an arm for each stage.
 use Rattle.protocol.specs.Phase.{isIdleStage}
-use borrow.Author.Needs.{needs}
 use Rattle.phase.proofs.stage.is_idle_stage.Statement.{statement}
 use Rattle.phase.proofs.stage.is_idle_stage.Tie as tie
 

@@ -1,6 +1,5 @@
 -- `phase::stage::is_storing_stage` meets its contract: an arm for each stage.
 use Rattle.protocol.specs.Phase.{isStoringStage}
-use borrow.Author.Needs.{needs}
 use Rattle.phase.proofs.stage.is_storing_stage.Statement.{statement}
 use Rattle.phase.proofs.stage.is_storing_stage.Tie as tie
 

@@ -1,6 +1,5 @@
 -- `phase::up::is_returning` meets its contract: an arm for each phase.
 use Rattle.protocol.specs.Phase.{isReturning}
-use borrow.Author.Needs.{needs}
 use Rattle.phase.proofs.up.is_returning.Statement.{statement}
 use Rattle.phase.proofs.up.is_returning.Tie as tie
 

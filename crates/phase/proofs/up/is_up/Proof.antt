@@ -1,6 +1,5 @@
 -- `phase::up::is_up` meets its contract: an arm for each phase.
 use Rattle.protocol.specs.Phase.{isUp}
-use borrow.Author.Needs.{needs}
 use Rattle.phase.proofs.up.is_up.Statement.{statement}
 use Rattle.phase.proofs.up.is_up.Tie as tie
 

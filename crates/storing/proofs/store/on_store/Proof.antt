@@ -2,7 +2,6 @@
 -- the sender's row.
 use Rattle.item.specs.Tests.{refuted, granted}
 use Rattle.protocol.specs.Storing.{onStore}
-use borrow.Author.Needs.{needs}
 use Rattle.storing.proofs.store.on_store.Statement.{statement}
 use Rattle.storing.proofs.store.on_store.Tie as tie
 

@@ -2,7 +2,6 @@
 use Rattle.item.specs.Tests.{refuted, granted}
 use Rattle.node.proofs.Answered.{answered}
 use Rattle.protocol.specs.Storing.{storeVerdict}
-use borrow.Author.Needs.{needs}
 use Rattle.storing.proofs.store.store_verdict.Statement.{statement}
 use Rattle.storing.proofs.store.store_verdict.Tie as tie
 

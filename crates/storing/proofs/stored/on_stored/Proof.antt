@@ -2,7 +2,6 @@
 use Rattle.item.specs.Tests.{refuted, granted}
 use Rattle.node.proofs.Answered.{answered}
 use Rattle.protocol.specs.Storing.{onStored}
-use borrow.Author.Needs.{needs}
 use Rattle.storing.proofs.stored.on_stored.Statement.{statement}
 use Rattle.storing.proofs.stored.on_stored.Tie as tie
 

@@ -1,6 +1,5 @@
 -- `storing::stored::send_confirm` meets its contract: the item and the step are those of the calls.
 use Rattle.protocol.specs.Storing.{sendConfirm}
-use borrow.Author.Needs.{needs}
 use Rattle.storing.proofs.stored.send_confirm.Statement.{statement}
 use Rattle.storing.proofs.stored.send_confirm.Tie as tie
 

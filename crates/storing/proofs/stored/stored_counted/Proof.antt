@@ -1,7 +1,6 @@
 -- `storing::stored::stored_counted` meets its contract: the count is held to f, both by calls.
 use borrow.Author.Tests.{lt-ltb, le-ltb}
 use Rattle.protocol.specs.Storing.{storedCounted}
-use borrow.Author.Needs.{needs}
 use Rattle.storing.proofs.stored.stored_counted.Statement.{statement}
 use Rattle.storing.proofs.stored.stored_counted.Tie as tie
 

@@ -1,7 +1,6 @@
 -- `writing::again::nothing_to_retry` meets its contract: the tests of the definition, in its order.
 use Rattle.node.proofs.Answered.{answered}
 use Rattle.protocol.specs.Write.{nothingToRetry}
-use borrow.Author.Needs.{needs}
 use Rattle.writing.proofs.again.nothing_to_retry.Statement.{statement}
 use Rattle.writing.proofs.again.nothing_to_retry.Tie as tie
 

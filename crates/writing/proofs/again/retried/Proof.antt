@@ -1,6 +1,5 @@
 -- `writing::again::retried` meets its contract: it is the call, with what the calls before it give.
 use Rattle.protocol.specs.Write.{retried}
-use borrow.Author.Needs.{needs}
 use Rattle.writing.proofs.again.retried.Statement.{statement}
 use Rattle.writing.proofs.again.retried.Tie as tie
 

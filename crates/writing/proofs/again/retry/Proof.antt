@@ -2,7 +2,6 @@
 -- attempt leaves.
 use Rattle.node.proofs.Answered.{answered}
 use Rattle.protocol.specs.Write.{retryStep}
-use borrow.Author.Needs.{needs}
 use Rattle.writing.proofs.again.retry.Statement.{statement}
 use Rattle.writing.proofs.again.retry.Tie as tie
 

@@ -1,6 +1,5 @@
 -- `writing::begin::next_item` meets its contract: the index is that of the call.
 use Rattle.protocol.specs.Write.{nextItem}
-use borrow.Author.Needs.{needs}
 use Rattle.writing.proofs.begin.next_item.Statement.{statement}
 use Rattle.writing.proofs.begin.next_item.Tie as tie
 

@@ -2,7 +2,6 @@
 use Rattle.item.specs.Tests.{refuted, granted}
 use Rattle.node.proofs.Answered.{answered}
 use Rattle.protocol.specs.Write.{writeStep}
-use borrow.Author.Needs.{needs}
 use Rattle.writing.proofs.begin.write.Statement.{statement}
 use Rattle.writing.proofs.begin.write.Tie as tie
 

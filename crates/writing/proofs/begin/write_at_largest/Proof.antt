@@ -1,7 +1,6 @@
 -- `writing::begin::write_at_largest` meets its contract: the tests of the definition, in its order.
 use Rattle.node.proofs.Answered.{answered}
 use Rattle.protocol.specs.Write.{writeAtLargest}
-use borrow.Author.Needs.{needs}
 use Rattle.writing.proofs.begin.write_at_largest.Statement.{statement}
 use Rattle.writing.proofs.begin.write_at_largest.Tie as tie
 

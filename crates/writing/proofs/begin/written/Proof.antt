@@ -1,6 +1,5 @@
 -- `writing::begin::written` meets its contract: it is the call, with what the calls before it give.
 use Rattle.protocol.specs.Write.{written}
-use borrow.Author.Needs.{needs}
 use Rattle.writing.proofs.begin.written.Statement.{statement}
 use Rattle.writing.proofs.begin.written.Tie as tie
 

@@ -1,7 +1,6 @@
 -- `writing::restart::crash` meets its contract: a refusal of a node that is Down, and the blank node.
 use Rattle.node.proofs.Answered.{answered}
 use Rattle.protocol.specs.Write.{crashStep}
-use borrow.Author.Needs.{needs}
 use Rattle.writing.proofs.restart.crash.Statement.{statement}
 use Rattle.writing.proofs.restart.crash.Tie as tie
 

@@ -2,7 +2,6 @@
 use Rattle.item.specs.Tests.{refuted, granted}
 use Rattle.node.proofs.Answered.{answered}
 use Rattle.protocol.specs.Write.{startStep}
-use borrow.Author.Needs.{needs}
 use Rattle.writing.proofs.restart.start.Statement.{statement}
 use Rattle.writing.proofs.restart.start.Tie as tie
 
