@@ -1,7 +1,6 @@
-// One node by value: what is read from it, each kind of change of it, and the steps that most decisions end with.
-// Everything is proved, no public function has a `requires`, and each gives what one definition of the crate
-// `protocol` says. A number past the last row reads as zero there and changes nothing.
-mod change;
+// One node by value: what is read from it, and the steps that most decisions end with; with them, each kind of change
+// of it, from the crate `change`. Everything is proved, no public function has a `requires`, and each gives what one
+// definition of the crate `protocol` says. A number past the last row reads as zero.
 mod read;
 mod step;
 
@@ -18,6 +17,7 @@ pub use read::count_peers;
 pub use read::half;
 pub use read::is_counted;
 pub use read::own_item;
+pub use read::own_write;
 pub use read::peer_of;
 pub use read::row_of;
 pub use step::ok;

@@ -1,11 +1,13 @@
 // What is read from a node.
+use item::Attempt;
+use item::Incarnation;
 use item::Item;
 use item::Row;
 use protocol::Node;
 use protocol::Peer;
 ghost use mathlib.Core.Path.{_≡_};
 ghost use Rattle.protocol.specs.Node.{half as f, rowOf, ownItem, peerOf, countPeers};
-ghost use Rattle.protocol.specs.Storing.{isCounted};
+ghost use Rattle.protocol.specs.Storing.{isCounted, ownWrite};
 
 // f, of a group of n = 2f + 1.
 pub fn half(n: usize) -> usize
@@ -33,14 +35,14 @@ pub fn own_item(node: Node) -> Item
     row.item
 }
 
-// Peer i of those counted, or of those asked; past the last, one that is neither.
-pub fn peer_of(peers: [Peer; Node::MAX_ROWS], i: usize) -> Peer
-    ensures { λ r. ⌜ r ≡ peerOf peers i ⌝ }
+// The peer of this number, of those counted or of those asked; past the last, one that is neither.
+pub fn peer_of(peers: [Peer; Node::MAX_ROWS], number: usize) -> Peer
+    ensures { λ r. ⌜ r ≡ peerOf peers number ⌝ }
 {
-    if Node::MAX_ROWS <= i {
+    if Node::MAX_ROWS <= number {
         return Peer::none();
     }
-    peers[i]
+    peers[number]
 }
 
 // How many peers are counted, or asked.
@@ -65,4 +67,18 @@ pub fn is_counted(node: Node, sender: usize) -> bool
     let counted = node.counted;
     let peer = peer_of(counted, sender);
     peer.present
+}
+
+// Whether other incarnation, attempt and item are the node's own present ones.
+pub fn own_write(node: Node, other: Incarnation, attempt: Attempt, item: Item) -> bool
+    ensures { λ r. ⌜ r ≡ ownWrite node other attempt item ⌝ }
+{
+    if !other.same(node.incarnation) {
+        return false;
+    }
+    if !attempt.same(node.attempt) {
+        return false;
+    }
+    let own = own_item(node);
+    item.same(own)
 }

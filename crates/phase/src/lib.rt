@@ -1,144 +1,15 @@
 // The tests on a node's phase, by which every decision branches, and its change of stage. Everything is proved, no
 // public function has a `requires`, and each gives what one definition of the crate `protocol` says.
-use protocol::Phase;
-use protocol::Stage;
-ghost use mathlib.Core.Path.{_≡_};
-ghost use Rattle.protocol.specs.Phase.{isDown, isFetching, isUp, isUpIdle, isIdle, isStoring, isConfirming, isReturning, atStage, isIdleStage, isStoringStage, isConfirmingStage};
+mod down;
+mod stage;
+mod up;
 
-// Whether the node is Down.
-pub fn is_down(phase: Phase) -> bool
-    ensures { λ r. ⌜ r ≡ isDown phase ⌝ }
-{
-    match phase {
-        Phase::Down => true,
-        Phase::Fetching => false,
-        Phase::Returning(_) => false,
-        Phase::Up(_) => false,
-    }
-}
-
-// Whether the node collects tables.
-pub fn is_fetching(phase: Phase) -> bool
-    ensures { λ r. ⌜ r ≡ isFetching phase ⌝ }
-{
-    match phase {
-        Phase::Down => false,
-        Phase::Fetching => true,
-        Phase::Returning(_) => false,
-        Phase::Up(_) => false,
-    }
-}
-
-// Whether the node is Up, in any stage of its own write.
-pub fn is_up(phase: Phase) -> bool
-    ensures { λ r. ⌜ r ≡ isUp phase ⌝ }
-{
-    match phase {
-        Phase::Down => false,
-        Phase::Fetching => false,
-        Phase::Returning(_) => false,
-        Phase::Up(_) => true,
-    }
-}
-
-// Whether the node writes back its own item.
-pub fn is_returning(phase: Phase) -> bool
-    ensures { λ r. ⌜ r ≡ isReturning phase ⌝ }
-{
-    match phase {
-        Phase::Down => false,
-        Phase::Fetching => false,
-        Phase::Returning(_) => true,
-        Phase::Up(_) => false,
-    }
-}
-
-fn is_idle_stage(stage: Stage) -> bool
-    ensures { λ r. ⌜ r ≡ isIdleStage stage ⌝ }
-{
-    match stage {
-        Stage::Idle => true,
-        Stage::Storing => false,
-        Stage::Confirming => false,
-    }
-}
-
-fn is_storing_stage(stage: Stage) -> bool
-    ensures { λ r. ⌜ r ≡ isStoringStage stage ⌝ }
-{
-    match stage {
-        Stage::Idle => false,
-        Stage::Storing => true,
-        Stage::Confirming => false,
-    }
-}
-
-fn is_confirming_stage(stage: Stage) -> bool
-    ensures { λ r. ⌜ r ≡ isConfirmingStage stage ⌝ }
-{
-    match stage {
-        Stage::Idle => false,
-        Stage::Storing => false,
-        Stage::Confirming => true,
-    }
-}
-
-// Whether the node is Up and no write is under way.
-pub fn is_up_idle(phase: Phase) -> bool
-    ensures { λ r. ⌜ r ≡ isUpIdle phase ⌝ }
-{
-    match phase {
-        Phase::Down => false,
-        Phase::Fetching => false,
-        Phase::Returning(_) => false,
-        Phase::Up(stage) => is_idle_stage(stage),
-    }
-}
-
-// Whether no write is under way, when Returning or Up.
-pub fn is_idle(phase: Phase) -> bool
-    ensures { λ r. ⌜ r ≡ isIdle phase ⌝ }
-{
-    match phase {
-        Phase::Down => false,
-        Phase::Fetching => false,
-        Phase::Returning(stage) => is_idle_stage(stage),
-        Phase::Up(stage) => is_idle_stage(stage),
-    }
-}
-
-// Whether the write is Storing, when Returning or Up.
-pub fn is_storing(phase: Phase) -> bool
-    ensures { λ r. ⌜ r ≡ isStoring phase ⌝ }
-{
-    match phase {
-        Phase::Down => false,
-        Phase::Fetching => false,
-        Phase::Returning(stage) => is_storing_stage(stage),
-        Phase::Up(stage) => is_storing_stage(stage),
-    }
-}
-
-// Whether the write is Confirming, when Returning or Up.
-pub fn is_confirming(phase: Phase) -> bool
-    ensures { λ r. ⌜ r ≡ isConfirming phase ⌝ }
-{
-    match phase {
-        Phase::Down => false,
-        Phase::Fetching => false,
-        Phase::Returning(stage) => is_confirming_stage(stage),
-        Phase::Up(stage) => is_confirming_stage(stage),
-    }
-}
-
-// The phase with another stage of the write. Down and Fetching have none, and stay.
-pub fn at_stage(phase: Phase, stage: Stage) -> Phase
-    ensures { λ r. ⌜ r ≡ atStage phase stage ⌝ }
-{
-    match phase {
-        Phase::Down => Phase::Down,
-        Phase::Fetching => Phase::Fetching,
-        Phase::Returning(_) => Phase::Returning(stage),
-        Phase::Up(_) => Phase::Up(stage),
-    }
-}
+pub use down::is_down;
+pub use down::is_fetching;
+pub use stage::at_stage;
+pub use stage::is_confirming;
+pub use stage::is_idle;
+pub use stage::is_storing;
+pub use stage::is_up_idle;
+pub use up::is_returning;
+pub use up::is_up;

@@ -1,5 +1,4 @@
 // Stored, at a node that is Storing.
-use crate::own::own_write;
 use item::Attempt;
 use item::Incarnation;
 use item::Item;
@@ -9,6 +8,7 @@ use node::half;
 use node::is_counted;
 use node::ok;
 use node::own_item;
+use node::own_write;
 use node::refused;
 use node::with_counted;
 use phase::at_stage;

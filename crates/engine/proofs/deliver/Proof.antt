@@ -8,37 +8,37 @@ enum-known-message : tie.Need-enum-known-message
 enum-known-message c = search needs
 
 on-store-requires : tie.Need-on-store-requires
-on-store-requires c κs = search needs
+on-store-requires c κs = tt
 
 enum-known-message-2 : tie.Need-enum-known-message-2
 enum-known-message-2 c = search needs
 
 on-stored-requires : tie.Need-on-stored-requires
-on-stored-requires c κs = search needs
+on-stored-requires c κs = tt
 
 enum-known-message-3 : tie.Need-enum-known-message-3
 enum-known-message-3 c = search needs
 
 on-confirm-requires : tie.Need-on-confirm-requires
-on-confirm-requires c κs = search needs
+on-confirm-requires c κs = tt
 
 enum-known-message-4 : tie.Need-enum-known-message-4
 enum-known-message-4 c = search needs
 
 on-confirmed-requires : tie.Need-on-confirmed-requires
-on-confirmed-requires c κs = search needs
+on-confirmed-requires c κs = tt
 
 enum-told : tie.Need-enum-told
 enum-told c = search needs
 
 on-fetch-requires : tie.Need-on-fetch-requires
-on-fetch-requires c κs = search needs
+on-fetch-requires c κs = tt
 
 enum-known-message-5 : tie.Need-enum-known-message-5
 enum-known-message-5 c = search needs
 
 on-table-requires : tie.Need-on-table-requires
-on-table-requires c κs = search needs
+on-table-requires c κs = tt
 
 returns : tie.Need-returns
 unfolding deliverStep onMessage

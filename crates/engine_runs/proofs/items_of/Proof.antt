@@ -12,7 +12,7 @@ abbrev μ-loop : tie.MeasureT-loop
 μ-loop rows items₀ i₀ items i = maxNodes - i
 
 zero-requires : tie.Need-zero-requires Inv-loop μ-loop
-zero-requires c κs = search needs
+zero-requires c κs = tt
 
 loop-holds : tie.Need-loop-holds Inv-loop μ-loop
 loop-holds c = search needs

@@ -1,11 +1,10 @@
 -- `fetching::has_conflict` meets its contract: one comparison with the lowest marked row.
-use borrow.Author.Needs.{needs}
 use Rattle.protocol.specs.Fetching.{hasConflict}
 use Rattle.fetching.proofs.has_conflict.Statement.{statement}
 use Rattle.fetching.proofs.has_conflict.Tie as tie
 
 lowest-marked-requires : tie.Need-lowest-marked-requires
-lowest-marked-requires c κs = search needs
+lowest-marked-requires c κs = tt
 
 returns : tie.Need-returns
 unfolding hasConflict

@@ -1,25 +1,24 @@
 -- `fetching::node_recover` meets its contract: the test of the definition, and the call of each case.
-use mathlib.Core.Path.{_∙_, sym}
-use borrow.Author.Needs.{needs}
 use Rattle.protocol.specs.Fetching.{nodeRecover}
+use Rattle.node.proofs.Answered.{answered}
 use Rattle.fetching.proofs.node_recover.Statement.{statement}
 use Rattle.fetching.proofs.node_recover.Tie as tie
 
 has-conflict-requires : tie.Need-has-conflict-requires
-has-conflict-requires c κs = search needs
+has-conflict-requires c κs = tt
 
 stopped-requires : tie.Need-stopped-requires
-stopped-requires c κs = search needs
+stopped-requires c κs = tt
 
 returns : tie.Need-returns
 unfolding nodeRecover
-returns c = rw (c .stopped .ensures, sym (c .before .before .has-conflict .ensures) ∙ c .before .if1 .taken)
+returns c = rw (c .stopped .ensures, answered (c .before .before .has-conflict .ensures) (c .before .if1 .taken))
 
 written-back-requires : tie.Need-written-back-requires
-written-back-requires c κs = search needs
+written-back-requires c κs = tt
 
 send-store-requires : tie.Need-send-store-requires
-send-store-requires c κs = search needs
+send-store-requires c κs = tt
 
 returns-2 : tie.Need-returns-2
 unfolding nodeRecover
@@ -28,7 +27,7 @@ returns-2 c =
     rw (
       c .send-store .ensures,
       c .before .written-back .ensures,
-      sym (b .before .has-conflict .ensures) ∙ b .if1 .left,
+      answered (b .before .has-conflict .ensures) (b .if1 .left),
     )
 
 pub node-recover-spec : {M : Type 1} → statement M

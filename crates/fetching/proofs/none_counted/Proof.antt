@@ -1,11 +1,10 @@
 -- `fetching::none_counted` meets its contract: one comparison of the count.
-use borrow.Author.Needs.{needs}
 use Rattle.protocol.specs.Fetching.{noneCounted}
 use Rattle.fetching.proofs.none_counted.Statement.{statement}
 use Rattle.fetching.proofs.none_counted.Tie as tie
 
 count-peers-requires : tie.Need-count-peers-requires
-count-peers-requires c κs = search needs
+count-peers-requires c κs = tt
 
 returns : tie.Need-returns
 unfolding noneCounted

@@ -1,22 +1,21 @@
 -- `fetching::on_fetch` meets its contract: the test of the definition.
-use borrow.Author.Needs.{needs}
 use Rattle.item.specs.Tests.{refuted, granted}
 use Rattle.protocol.specs.Fetching.{onFetch}
 use Rattle.fetching.proofs.on_fetch.Statement.{statement}
 use Rattle.fetching.proofs.on_fetch.Tie as tie
 
 is-up-requires : tie.Need-is-up-requires
-is-up-requires c κs = search needs
+is-up-requires c κs = tt
 
 refused-requires : tie.Need-refused-requires
-refused-requires c κs = search needs
+refused-requires c κs = tt
 
 returns : tie.Need-returns
 unfolding onFetch
 returns c = rw (c .refused .ensures, refuted (c .before .before .is-up .ensures) (c .before .if1 .taken))
 
 ok-requires : tie.Need-ok-requires
-ok-requires c κs = search needs
+ok-requires c κs = tt
 
 returns-2 : tie.Need-returns-2
 unfolding onFetch

@@ -1,26 +1,25 @@
 -- `fetching::on_table` meets its contract: the tests of the definition, in its order.
-use mathlib.Core.Path.{_∙_, sym}
-use borrow.Author.Needs.{needs}
 use Rattle.item.specs.Tests.{refuted, granted}
 use Rattle.protocol.specs.Fetching.{onTable}
+use Rattle.node.proofs.Answered.{answered}
 use Rattle.fetching.proofs.on_table.Statement.{statement}
 use Rattle.fetching.proofs.on_table.Tie as tie
 
 is-fetching-requires : tie.Need-is-fetching-requires
-is-fetching-requires c κs = search needs
+is-fetching-requires c κs = tt
 
 refused-requires : tie.Need-refused-requires
-refused-requires c κs = search needs
+refused-requires c κs = tt
 
 returns : tie.Need-returns
 unfolding onTable
 returns c = rw (c .refused .ensures, refuted (c .before .before .is-fetching .ensures) (c .before .if1 .taken))
 
 same-requires : tie.Need-same-requires
-same-requires c κs = search needs
+same-requires c κs = tt
 
 refused-requires-2 : tie.Need-refused-requires-2
-refused-requires-2 c κs = search needs
+refused-requires-2 c κs = tt
 
 returns-2 : tie.Need-returns-2
 unfolding onTable
@@ -33,10 +32,10 @@ returns-2 c =
     )
 
 is-counted-requires : tie.Need-is-counted-requires
-is-counted-requires c κs = search needs
+is-counted-requires c κs = tt
 
 refused-requires-3 : tie.Need-refused-requires-3
-refused-requires-3 c κs = search needs
+refused-requires-3 c κs = tt
 
 returns-3 : tie.Need-returns-3
 unfolding onTable
@@ -47,14 +46,14 @@ returns-3 c =
       c .refused3 .ensures,
       granted (s .before .before .is-fetching .ensures) (s .before .if1 .left),
       granted (s .same .ensures) (k .before .if2 .left),
-      sym (k .is-counted .ensures) ∙ c .before .if3 .taken,
+      answered (k .is-counted .ensures) (c .before .if3 .taken),
     )
 
 with-table-requires : tie.Need-with-table-requires
-with-table-requires c κs = search needs
+with-table-requires c κs = tt
 
 table-counted-requires : tie.Need-table-counted-requires
-table-counted-requires c κs = search needs
+table-counted-requires c κs = tt
 
 returns-4 : tie.Need-returns-4
 unfolding onTable
@@ -66,7 +65,7 @@ returns-4 c =
       c .before .with-table .ensures,
       granted (s .before .before .is-fetching .ensures) (s .before .if1 .left),
       granted (s .same .ensures) (k .before .if2 .left),
-      sym (k .is-counted .ensures) ∙ c .before .before .if3 .left,
+      answered (k .is-counted .ensures) (c .before .before .if3 .left),
     )
 
 pub on-table-spec : {M : Type 1} → statement M

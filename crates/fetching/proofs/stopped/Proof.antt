@@ -1,14 +1,13 @@
 -- `fetching::stopped` meets its contract: the row and the node are those of the two calls.
-use borrow.Author.Needs.{needs}
 use Rattle.protocol.specs.Fetching.{stopped}
 use Rattle.fetching.proofs.stopped.Statement.{statement}
 use Rattle.fetching.proofs.stopped.Tie as tie
 
 lowest-marked-requires : tie.Need-lowest-marked-requires
-lowest-marked-requires c κs = search needs
+lowest-marked-requires c κs = tt
 
 crashed-requires : tie.Need-crashed-requires
-crashed-requires c κs = search needs
+crashed-requires c κs = tt
 
 returns : tie.Need-returns
 unfolding stopped

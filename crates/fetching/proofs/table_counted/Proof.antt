@@ -2,20 +2,19 @@
 use Prim.Native.Nat.{suc}
 use native.Mathlib.Omega.{arith}
 use borrow.Author.Tests.{lt-ltb, le-ltb}
-use borrow.Author.Needs.{needs}
 use Rattle.protocol.specs.Node.{half, countPeers}
 use Rattle.protocol.specs.Fetching.{tableCounted}
 use Rattle.fetching.proofs.table_counted.Statement.{statement}
 use Rattle.fetching.proofs.table_counted.Tie as tie
 
 count-peers-requires : tie.Need-count-peers-requires
-count-peers-requires c κs = search needs
+count-peers-requires c κs = tt
 
 half-requires : tie.Need-half-requires
-half-requires c κs = search needs
+half-requires c κs = tt
 
 ok-requires : tie.Need-ok-requires
-ok-requires c κs = search needs
+ok-requires c κs = tt
 
 returns : tie.Need-returns
 unfolding tableCounted
@@ -28,7 +27,7 @@ returns c =
     )
 
 node-recover-requires : tie.Need-node-recover-requires
-node-recover-requires c κs = search needs
+node-recover-requires c κs = tt
 
 returns-2 : tie.Need-returns-2
 unfolding tableCounted

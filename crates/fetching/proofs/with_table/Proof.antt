@@ -1,20 +1,19 @@
 -- `fetching::with_table` meets its contract: it is the calls.
-use borrow.Author.Needs.{needs}
 use Rattle.protocol.specs.Fetching.{withTable}
 use Rattle.fetching.proofs.with_table.Statement.{statement}
 use Rattle.fetching.proofs.with_table.Tie as tie
 
 none-counted-requires : tie.Need-none-counted-requires
-none-counted-requires c κs = search needs
+none-counted-requires c κs = tt
 
 merge-rows-requires : tie.Need-merge-rows-requires
-merge-rows-requires c κs = search needs
+merge-rows-requires c κs = tt
 
 with-rows-requires : tie.Need-with-rows-requires
-with-rows-requires c κs = search needs
+with-rows-requires c κs = tt
 
 with-counted-requires : tie.Need-with-counted-requires
-with-counted-requires c κs = search needs
+with-counted-requires c κs = tt
 
 returns : tie.Need-returns
 unfolding withTable

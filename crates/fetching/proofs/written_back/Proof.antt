@@ -1,14 +1,13 @@
 -- `fetching::written_back` meets its contract: it is the calls.
-use borrow.Author.Needs.{needs}
 use Rattle.protocol.specs.Fetching.{writtenBack}
 use Rattle.fetching.proofs.written_back.Statement.{statement}
 use Rattle.fetching.proofs.written_back.Tie as tie
 
 own-item-requires : tie.Need-own-item-requires
-own-item-requires c κs = search needs
+own-item-requires c κs = tt
 
 storing-begun-requires : tie.Need-storing-begun-requires
-storing-begun-requires c κs = search needs
+storing-begun-requires c κs = tt
 
 returns : tie.Need-returns
 unfolding writtenBack

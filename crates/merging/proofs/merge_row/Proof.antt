@@ -1,31 +1,30 @@
 -- `merging::merge_row` meets its contract: the tests of the definition, in its order.
-use mathlib.Core.Path.{_∙_, sym}
-use borrow.Author.Needs.{needs}
 use Rattle.protocol.specs.Merge.{mergeRow}
+use Rattle.node.proofs.Answered.{answered}
 use Rattle.merging.proofs.merge_row.Statement.{statement}
 use Rattle.merging.proofs.merge_row.Tie as tie
 
 fetched-row-requires : tie.Need-fetched-row-requires
-fetched-row-requires c κs = search needs
+fetched-row-requires c κs = tt
 
 returns : tie.Need-returns
 unfolding mergeRow
 returns c = rw (c .fetched-row .ensures, c .before .if1 .taken)
 
 ranks-below-requires : tie.Need-ranks-below-requires
-ranks-below-requires c κs = search needs
+ranks-below-requires c κs = tt
 
 fetched-row-requires-2 : tie.Need-fetched-row-requires-2
-fetched-row-requires-2 c κs = search needs
+fetched-row-requires-2 c κs = tt
 
 returns-2 : tie.Need-returns-2
 unfolding mergeRow
 returns-2 c =
     let b = c .before .before in
-    rw (c .fetched-row2 .ensures, b .before .if1 .left, sym (b .ranks-below .ensures) ∙ c .before .if2 .taken)
+    rw (c .fetched-row2 .ensures, b .before .if1 .left, answered (b .ranks-below .ensures) (c .before .if2 .taken))
 
 ranks-below-requires-2 : tie.Need-ranks-below-requires-2
-ranks-below-requires-2 c κs = search needs
+ranks-below-requires-2 c κs = tt
 
 returns-3 : tie.Need-returns-3
 unfolding mergeRow
@@ -33,12 +32,12 @@ returns-3 c =
     let b = c .before .before .before in
     rw (
       b .before .if1 .left,
-      sym (b .ranks-below .ensures) ∙ c .before .before .if2 .left,
-      sym (c .before .ranks-below2 .ensures) ∙ c .if3 .taken,
+      answered (b .ranks-below .ensures) (c .before .before .if2 .left),
+      answered (c .before .ranks-below2 .ensures) (c .if3 .taken),
     )
 
 same-requires : tie.Need-same-requires
-same-requires c κs = search needs
+same-requires c κs = tt
 
 returns-4 : tie.Need-returns-4
 unfolding mergeRow
@@ -47,13 +46,13 @@ returns-4 c =
     let b = d .before .before in
     rw (
       b .before .if1 .left,
-      sym (b .ranks-below .ensures) ∙ d .before .if2 .left,
-      sym (d .ranks-below2 .ensures) ∙ c .before .before .if3 .left,
-      sym (c .before .same .ensures) ∙ c .if4 .taken,
+      answered (b .ranks-below .ensures) (d .before .if2 .left),
+      answered (d .ranks-below2 .ensures) (c .before .before .if3 .left),
+      answered (c .before .same .ensures) (c .if4 .taken),
     )
 
 marked-row-requires : tie.Need-marked-row-requires
-marked-row-requires c κs = search needs
+marked-row-requires c κs = tt
 
 returns-5 : tie.Need-returns-5
 unfolding mergeRow
@@ -64,9 +63,9 @@ returns-5 c =
     rw (
       c .marked-row .ensures,
       b .before .if1 .left,
-      sym (b .ranks-below .ensures) ∙ d .before .if2 .left,
-      sym (d .ranks-below2 .ensures) ∙ e .before .if3 .left,
-      sym (e .same .ensures) ∙ c .before .if4 .left,
+      answered (b .ranks-below .ensures) (d .before .if2 .left),
+      answered (d .ranks-below2 .ensures) (e .before .if3 .left),
+      answered (e .same .ensures) (c .before .if4 .left),
     )
 
 pub merge-row-spec : {M : Type 1} → statement M

@@ -36,7 +36,7 @@ array-copy-out-item : tie.Need-array-copy-out-item Inv-loop μ-loop
 array-copy-out-item c = search needs
 
 merge-row-requires : tie.Need-merge-row-requires Inv-loop μ-loop
-merge-row-requires c κs = search needs
+merge-row-requires c κs = tt
 
 mul-next : tie.Need-mul-next Inv-loop μ-loop
 mul-next c = search needs

@@ -30,7 +30,7 @@ array-copy-out-peer : tie.Need-array-copy-out-peer Inv-loop μ-loop
 array-copy-out-peer c = search needs
 
 among-asked-requires : tie.Need-among-asked-requires Inv-loop μ-loop
-among-asked-requires c κs = search needs
+among-asked-requires c κs = tt
 
 returns : tie.Need-returns Inv-loop μ-loop
 returns c =

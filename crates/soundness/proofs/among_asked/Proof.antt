@@ -1,6 +1,5 @@
 -- `soundness::among_asked` meets its contract: the test of the definition.
 use borrow.Author.Tests.{not-true, not-false}
-use borrow.Author.Needs.{needs}
 use Rattle.protocol.specs.Sound.{amongAsked}
 use Rattle.soundness.proofs.among_asked.Statement.{statement}
 use Rattle.soundness.proofs.among_asked.Tie as tie
@@ -10,7 +9,7 @@ unfolding amongAsked
 returns c = rw (not-true (c .before .before .args .peer .present) (c .if1 .taken))
 
 peer-of-requires : tie.Need-peer-of-requires
-peer-of-requires c κs = search needs
+peer-of-requires c κs = tt
 
 returns-2 : tie.Need-returns-2
 unfolding amongAsked

@@ -1,19 +1,18 @@
 -- `soundness::counted_asked` meets its contract: the test of the definition.
-use borrow.Author.Needs.{needs}
 use Rattle.item.specs.Tests.{refuted, granted}
 use Rattle.protocol.specs.Sound.{countedAsked}
 use Rattle.soundness.proofs.counted_asked.Statement.{statement}
 use Rattle.soundness.proofs.counted_asked.Tie as tie
 
 is-confirming-requires : tie.Need-is-confirming-requires
-is-confirming-requires c κs = search needs
+is-confirming-requires c κs = tt
 
 returns : tie.Need-returns
 unfolding countedAsked
 returns c = rw (refuted (c .before .is-confirming .ensures) (c .if1 .taken))
 
 all-among-asked-requires : tie.Need-all-among-asked-requires
-all-among-asked-requires c κs = search needs
+all-among-asked-requires c κs = tt
 
 returns-2 : tie.Need-returns-2
 unfolding countedAsked

@@ -30,7 +30,7 @@ array-copy-out-row : tie.Need-array-copy-out-row Inv-loop μ-loop
 array-copy-out-row c = search needs
 
 row-sound-requires : tie.Need-row-sound-requires Inv-loop μ-loop
-row-sound-requires c κs = search needs
+row-sound-requires c κs = tt
 
 returns : tie.Need-returns Inv-loop μ-loop
 returns c =

@@ -1,7 +1,6 @@
 -- `soundness::node_sound` meets its contract: an early return for each part that fails, in the order of the definition.
 -- The letters name the calls that answered: t attempt_fits, r rows_sound, k peers_sound of the counted, a of the asked, p phase_counts.
 use borrow.Author.Tests.{eq-eqb, ne-eqb}
-use borrow.Author.Needs.{needs}
 use Rattle.item.specs.Tests.{refuted, granted}
 use Rattle.protocol.specs.Sound.{soundNode}
 use Rattle.soundness.proofs.node_sound.Statement.{statement}
@@ -16,7 +15,7 @@ unfolding soundNode
 returns-2 c = rw (eq-eqb _ _ (c .before .before .if1 .left), ne-eqb _ _ (c .if2 .taken))
 
 attempt-fits-requires : tie.Need-attempt-fits-requires
-attempt-fits-requires c κs = search needs
+attempt-fits-requires c κs = tt
 
 returns-3 : tie.Need-returns-3
 unfolding soundNode
@@ -29,7 +28,7 @@ returns-3 c =
     )
 
 rows-sound-requires : tie.Need-rows-sound-requires
-rows-sound-requires c κs = search needs
+rows-sound-requires c κs = tt
 
 returns-4 : tie.Need-returns-4
 unfolding soundNode
@@ -44,7 +43,7 @@ returns-4 c =
     )
 
 peers-sound-requires : tie.Need-peers-sound-requires
-peers-sound-requires c κs = search needs
+peers-sound-requires c κs = tt
 
 returns-5 : tie.Need-returns-5
 unfolding soundNode
@@ -61,7 +60,7 @@ returns-5 c =
     )
 
 peers-sound-requires-2 : tie.Need-peers-sound-requires-2
-peers-sound-requires-2 c κs = search needs
+peers-sound-requires-2 c κs = tt
 
 returns-6 : tie.Need-returns-6
 unfolding soundNode
@@ -80,16 +79,16 @@ returns-6 c =
     )
 
 half-requires : tie.Need-half-requires
-half-requires c κs = search needs
+half-requires c κs = tt
 
 count-peers-requires : tie.Need-count-peers-requires
-count-peers-requires c κs = search needs
+count-peers-requires c κs = tt
 
 count-peers-requires-2 : tie.Need-count-peers-requires-2
-count-peers-requires-2 c κs = search needs
+count-peers-requires-2 c κs = tt
 
 phase-counts-requires : tie.Need-phase-counts-requires
-phase-counts-requires c κs = search needs
+phase-counts-requires c κs = tt
 
 returns-7 : tie.Need-returns-7
 unfolding soundNode
@@ -111,7 +110,7 @@ returns-7 c =
     )
 
 counted-asked-requires : tie.Need-counted-asked-requires
-counted-asked-requires c κs = search needs
+counted-asked-requires c κs = tt
 
 returns-8 : tie.Need-returns-8
 unfolding soundNode

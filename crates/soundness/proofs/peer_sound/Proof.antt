@@ -1,12 +1,11 @@
 -- `soundness::peer_sound` meets its contract: the tests of the definition, in its order.
 use borrow.Author.Tests.{lt-ltb, le-ltb, not-true, not-false}
-use borrow.Author.Needs.{needs}
 use Rattle.protocol.specs.Sound.{peerSound}
 use Rattle.soundness.proofs.peer_sound.Statement.{statement}
 use Rattle.soundness.proofs.peer_sound.Tie as tie
 
 same-requires : tie.Need-same-requires
-same-requires c κs = search needs
+same-requires c κs = tt
 
 returns : tie.Need-returns
 unfolding peerSound

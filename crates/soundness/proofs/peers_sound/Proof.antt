@@ -30,7 +30,7 @@ array-copy-out-peer : tie.Need-array-copy-out-peer Inv-loop μ-loop
 array-copy-out-peer c = search needs
 
 peer-sound-requires : tie.Need-peer-sound-requires Inv-loop μ-loop
-peer-sound-requires c κs = search needs
+peer-sound-requires c κs = tt
 
 returns : tie.Need-returns Inv-loop μ-loop
 unfolding peersSound

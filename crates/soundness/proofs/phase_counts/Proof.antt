@@ -18,13 +18,13 @@ enum-known-phase : tie.Need-enum-known-phase
 enum-known-phase c = search needs
 
 stage-counts-requires : tie.Need-stage-counts-requires
-stage-counts-requires c κs = search needs
+stage-counts-requires c κs = tt
 
 enum-known-phase-2 : tie.Need-enum-known-phase-2
 enum-known-phase-2 c = search needs
 
 stage-counts-requires-2 : tie.Need-stage-counts-requires-2
-stage-counts-requires-2 c κs = search needs
+stage-counts-requires-2 c κs = tt
 
 returns : tie.Need-returns
 unfolding phaseCounts

@@ -9,23 +9,23 @@ enum-told : tie.Need-enum-told
 enum-told c = search needs
 
 zero-requires : tie.Need-zero-requires
-zero-requires c κs = search needs
+zero-requires c κs = tt
 
 same-requires : tie.Need-same-requires
-same-requires c κs = search needs
+same-requires c κs = tt
 
 enum-told-2 : tie.Need-enum-told-2
 enum-told-2 c = search needs
 
 same-requires-2 : tie.Need-same-requires-2
-same-requires-2 c κs = search needs
+same-requires-2 c κs = tt
 
 returns : tie.Need-returns
 unfolding rowFits
 returns c = rw (c .before .before .enum-told2 .given .1, refuted (c .before .same2 .ensures) (c .if1 .taken))
 
 same-requires-3 : tie.Need-same-requires-3
-same-requires-3 c κs = search needs
+same-requires-3 c κs = tt
 
 enum-told-3 : tie.Need-enum-told-3
 enum-told-3 c = search needs

@@ -11,7 +11,7 @@ enum-told-2 : tie.Need-enum-told-2
 enum-told-2 c = search needs
 
 fetching-use-requires : tie.Need-fetching-use-requires
-fetching-use-requires c κs = search needs
+fetching-use-requires c κs = tt
 
 enum-told-3 : tie.Need-enum-told-3
 enum-told-3 c = search needs

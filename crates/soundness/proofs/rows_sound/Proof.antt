@@ -1,17 +1,16 @@
 -- `soundness::rows_sound` meets its contract: it is the calls.
-use borrow.Author.Needs.{needs}
 use Rattle.protocol.specs.Sound.{rowsSound}
 use Rattle.soundness.proofs.rows_sound.Statement.{statement}
 use Rattle.soundness.proofs.rows_sound.Tie as tie
 
 count-peers-requires : tie.Need-count-peers-requires
-count-peers-requires c κs = search needs
+count-peers-requires c κs = tt
 
 row-use-requires : tie.Need-row-use-requires
-row-use-requires c κs = search needs
+row-use-requires c κs = tt
 
 every-row-requires : tie.Need-every-row-requires
-every-row-requires c κs = search needs
+every-row-requires c κs = tt
 
 returns : tie.Need-returns
 unfolding rowsSound

@@ -1,7 +1,7 @@
 -- `node::read::count_peers` meets its contract. Invariant: those passed, with those that the rest of the list has, are all
 -- that are present.
 use Rattle.node.proofs.Count.{count-present, count-absent, count-end}
-use Rattle.node.proofs.Array.{length-mapped}
+use Rattle.change.proofs.Array.{length-mapped}
 use Rattle.protocol.specs.Node.{countPeers}
 use native.Mathlib.Omega.{arith}
 use lib.ListN.{length, drop}

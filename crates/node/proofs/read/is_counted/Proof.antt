@@ -1,11 +1,10 @@
 -- `node::read::is_counted` meets its contract: what the call gives of the peers counted.
 use Rattle.protocol.specs.Storing.{isCounted}
-use borrow.Author.Needs.{needs}
 use Rattle.node.proofs.read.is_counted.Statement.{statement}
 use Rattle.node.proofs.read.is_counted.Tie as tie
 
 peer-of-requires : tie.Need-peer-of-requires
-peer-of-requires c κs = search needs
+peer-of-requires c κs = tt
 
 returns : tie.Need-returns
 unfolding isCounted

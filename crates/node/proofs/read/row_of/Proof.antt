@@ -1,16 +1,16 @@
 -- `node::read::row_of` meets its contract: past the last row the list of rows gives the zero row.
-use Rattle.node.proofs.Array.{length-mapped, getD-out}
+use Rattle.change.proofs.Array.{length-mapped, getD-out}
 use Rattle.item.specs.Row.{zeroRow}
 use Rattle.protocol.specs.Node.{rowOf}
 use native.Mathlib.Omega.{arith}
 use lib.ListN.{length}
-use mathlib.Core.Path.{_≡_}
+use mathlib.Core.Path.{_≡_, refl}
 use borrow.Author.Needs.{needs}
 use Rattle.node.proofs.read.row_of.Statement.{statement}
 use Rattle.node.proofs.read.row_of.Tie as tie
 
 zero-requires : tie.Need-zero-requires
-zero-requires c κs = search needs
+zero-requires c κs = tt
 
 returns : tie.Need-returns
 unfolding rowOf
@@ -27,7 +27,7 @@ element-copy-out-result c = search needs
 
 returns-2 : tie.Need-returns-2
 unfolding rowOf
-returns-2 c = search needs
+returns-2 c = refl
 
 pub row-of-spec : {M : Type 1} → statement M
 row-of-spec =

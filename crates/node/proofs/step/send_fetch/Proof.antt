@@ -1,11 +1,10 @@
 -- `node::step::send_fetch` meets its contract: it is the call.
 use Rattle.protocol.specs.Write.{sendFetch}
-use borrow.Author.Needs.{needs}
 use Rattle.node.proofs.step.send_fetch.Statement.{statement}
 use Rattle.node.proofs.step.send_fetch.Tie as tie
 
 ok-requires : tie.Need-ok-requires
-ok-requires c κs = search needs
+ok-requires c κs = tt
 
 returns : tie.Need-returns
 unfolding sendFetch

@@ -1,14 +1,13 @@
 -- `node::step::send_store` meets its contract: the item and the step are those of the calls.
 use Rattle.protocol.specs.Write.{sendStore}
-use borrow.Author.Needs.{needs}
 use Rattle.node.proofs.step.send_store.Statement.{statement}
 use Rattle.node.proofs.step.send_store.Tie as tie
 
 own-item-requires : tie.Need-own-item-requires
-own-item-requires c κs = search needs
+own-item-requires c κs = tt
 
 ok-requires : tie.Need-ok-requires
-ok-requires c κs = search needs
+ok-requires c κs = tt
 
 returns : tie.Need-returns
 unfolding sendStore

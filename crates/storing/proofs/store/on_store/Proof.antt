@@ -2,28 +2,27 @@
 -- the sender's row.
 use Rattle.item.specs.Tests.{refuted, granted}
 use Rattle.protocol.specs.Storing.{onStore}
-use borrow.Author.Needs.{needs}
 use Rattle.storing.proofs.store.on_store.Statement.{statement}
 use Rattle.storing.proofs.store.on_store.Tie as tie
 
 is-up-requires : tie.Need-is-up-requires
-is-up-requires c κs = search needs
+is-up-requires c κs = tt
 
 refused-requires : tie.Need-refused-requires
-refused-requires c κs = search needs
+refused-requires c κs = tt
 
 returns : tie.Need-returns
 unfolding onStore
 returns c = rw (c .refused .ensures, refuted (c .before .before .is-up .ensures) (c .before .if1 .taken))
 
 row-of-requires : tie.Need-row-of-requires
-row-of-requires c κs = search needs
+row-of-requires c κs = tt
 
 store-verdict-requires : tie.Need-store-verdict-requires
-store-verdict-requires c κs = search needs
+store-verdict-requires c κs = tt
 
 reply-store-requires : tie.Need-reply-store-requires
-reply-store-requires c κs = search needs
+reply-store-requires c κs = tt
 
 returns-2 : tie.Need-returns-2
 unfolding onStore

@@ -8,16 +8,16 @@ enum-known-verdict : tie.Need-enum-known-verdict
 enum-known-verdict c = search needs
 
 refused-requires : tie.Need-refused-requires
-refused-requires c κs = search needs
+refused-requires c κs = tt
 
 enum-told : tie.Need-enum-told
 enum-told c = search needs
 
 with-row-requires : tie.Need-with-row-requires
-with-row-requires c κs = search needs
+with-row-requires c κs = tt
 
 ok-requires : tie.Need-ok-requires
-ok-requires c κs = search needs
+ok-requires c κs = tt
 
 returns : tie.Need-returns
 unfolding replyStore

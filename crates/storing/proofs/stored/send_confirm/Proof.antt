@@ -1,14 +1,13 @@
 -- `storing::stored::send_confirm` meets its contract: the item and the step are those of the calls.
 use Rattle.protocol.specs.Storing.{sendConfirm}
-use borrow.Author.Needs.{needs}
 use Rattle.storing.proofs.stored.send_confirm.Statement.{statement}
 use Rattle.storing.proofs.stored.send_confirm.Tie as tie
 
 own-item-requires : tie.Need-own-item-requires
-own-item-requires c κs = search needs
+own-item-requires c κs = tt
 
 ok-requires : tie.Need-ok-requires
-ok-requires c κs = search needs
+ok-requires c κs = tt
 
 returns : tie.Need-returns
 unfolding sendConfirm

@@ -1,18 +1,17 @@
 -- `storing::stored::stored_counted` meets its contract: the count is held to f, both by calls.
 use borrow.Author.Tests.{lt-ltb, le-ltb}
 use Rattle.protocol.specs.Storing.{storedCounted}
-use borrow.Author.Needs.{needs}
 use Rattle.storing.proofs.stored.stored_counted.Statement.{statement}
 use Rattle.storing.proofs.stored.stored_counted.Tie as tie
 
 count-peers-requires : tie.Need-count-peers-requires
-count-peers-requires c κs = search needs
+count-peers-requires c κs = tt
 
 half-requires : tie.Need-half-requires
-half-requires c κs = search needs
+half-requires c κs = tt
 
 ok-requires : tie.Need-ok-requires
-ok-requires c κs = search needs
+ok-requires c κs = tt
 
 returns : tie.Need-returns
 unfolding storedCounted
@@ -21,13 +20,13 @@ returns c =
     rw (c .ok .ensures, few)
 
 at-stage-requires : tie.Need-at-stage-requires
-at-stage-requires c κs = search needs
+at-stage-requires c κs = tt
 
 confirming-begun-requires : tie.Need-confirming-begun-requires
-confirming-begun-requires c κs = search needs
+confirming-begun-requires c κs = tt
 
 send-confirm-requires : tie.Need-send-confirm-requires
-send-confirm-requires c κs = search needs
+send-confirm-requires c κs = tt
 
 returns-2 : tie.Need-returns-2
 unfolding storedCounted
