@@ -1,0 +1,72 @@
+// The engine over one node by value: every event, and a message delivered by its kind. Everything is proved, no public
+// function has a `requires`, and each gives what one definition of protocol's specs/ says.
+use fetching::on_fetch;
+use fetching::on_table;
+use item::Item;
+use message::Envelope;
+use message::Message;
+pub use node::fresh_node;
+use protocol::Node;
+use protocol::Refusal;
+use protocol::Step;
+use storing::on_confirm;
+use storing::on_confirmed;
+use storing::on_store;
+use storing::on_stored;
+pub use writing::crash;
+pub use writing::retry;
+pub use writing::start;
+pub use writing::write;
+ghost use mathlib.Core.Path.{_≡_};
+ghost use Rattle.protocol.specs.Answer.{refusalNumber};
+ghost use Rattle.protocol.specs.Deliver.{deliverStep};
+
+// What the node makes of a message. `items` are the rows of a Table; the other kinds do not look at them.
+pub fn deliver(node: Node, envelope: Envelope, items: [Item; Node::MAX_ROWS]) -> Step
+    ensures { λ r. ⌜ r ≡ deliverStep node envelope items ⌝ }
+{
+    let sender = envelope.sender;
+    let incarnation = envelope.incarnation;
+    let message = envelope.message;
+    match message {
+        Message::Store { attempt, item } => on_store(node, sender, incarnation, attempt, item),
+        Message::Stored {
+            other,
+            attempt,
+            item,
+        } => on_stored(node, sender, incarnation, other, attempt, item),
+        Message::Confirm {
+            other,
+            attempt,
+            item,
+        } => on_confirm(node, sender, incarnation, other, attempt, item),
+        Message::Confirmed {
+            other,
+            attempt,
+            item,
+        } => on_confirmed(node, sender, incarnation, other, attempt, item),
+        Message::Fetch => on_fetch(node, incarnation),
+        Message::Table { other } => on_table(node, sender, incarnation, other, items),
+    }
+}
+
+// Document 01's number of a refusal.
+pub fn refusal_number(why: Refusal) -> u64
+    ensures { λ r. ⌜ r ≡ refusalNumber why ⌝ }
+{
+    match why {
+        Refusal::GroupSize => 1,
+        Refusal::StoreLength => 2,
+        Refusal::Unsound => 3,
+        Refusal::NoNode => 4,
+        Refusal::WrongStage => 5,
+        Refusal::AtLargest => 6,
+        Refusal::NoRoom => 7,
+        Refusal::NoMessage => 8,
+        Refusal::NotTaken => 9,
+        Refusal::Stale => 10,
+        Refusal::Counted => 11,
+        Refusal::LowerRank => 12,
+        Refusal::OtherTag => 13,
+    }
+}
