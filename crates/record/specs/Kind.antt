@@ -1,0 +1,118 @@
+-- The six kinds of message (document 01: "1 Store, 2 Stored, 3 Confirm, 4 Confirmed, 5 Fetch, 6 Table") and which fields
+-- of a record each uses: "'Other' is .. in Store and Fetch 0"; "Fetch and Table have attempt, index and tag 0".
+use Prim.Native.Nat.{ℕ, min}
+use mathlib.Core.Bool.{Bool, true, false, _&&_, cond}
+use lib.Dec.{eqb}
+use Rattle.item.specs.Maxima.{maxNodes}
+use Rattle.item.specs.Counter.{sameIncarnation, sameAttempt}
+use Rattle.item.specs.Item.{zeroItem, sameItem}
+use Rattle.item.specs.declared.Incarnation.{Incarnation}
+use Rattle.item.specs.declared.Attempt.{Attempt}
+use Rattle.item.specs.declared.Item.{Item}
+use Rattle.message.specs.declared.Message.{Message}
+use Rattle.message.specs.declared.Message.the-variants.{Store, Stored, Confirm, Confirmed, Fetch, Table}
+use Rattle.message.specs.declared.Envelope.{Envelope}
+use Rattle.record.specs.declared.kind.Fields.{Fields}
+use Rattle.record.specs.declared.kind.Known.{Known}
+use Rattle.record.specs.declared.kind.Known.the-variants as known
+
+abbrev pub storeKind : ℕ
+storeKind = 1
+
+abbrev pub storedKind : ℕ
+storedKind = 2
+
+abbrev pub confirmKind : ℕ
+confirmKind = 3
+
+abbrev pub confirmedKind : ℕ
+confirmedKind = 4
+
+abbrev pub fetchKind : ℕ
+fetchKind = 5
+
+abbrev pub tableKind : ℕ
+tableKind = 6
+
+unfoldable pub kindOf : Message → ℕ
+kindOf (Store attempt item) = storeKind
+kindOf (Stored other attempt item) = storedKind
+kindOf (Confirm other attempt item) = confirmKind
+kindOf (Confirmed other attempt item) = confirmedKind
+kindOf Fetch = fetchKind
+kindOf (Table other) = tableKind
+
+abbrev pub noIncarnation : Incarnation
+noIncarnation = record { 0 = 0 }
+
+abbrev pub noAttempt : Attempt
+noAttempt = record { 0 = 0 }
+
+-- what a message has in the fields that not every kind uses; 0 where its kind does not
+unfoldable pub otherOf : Message → Incarnation
+otherOf (Store attempt item) = noIncarnation
+otherOf (Stored other attempt item) = other
+otherOf (Confirm other attempt item) = other
+otherOf (Confirmed other attempt item) = other
+otherOf Fetch = noIncarnation
+otherOf (Table other) = other
+
+unfoldable pub attemptOf : Message → Attempt
+attemptOf (Store attempt item) = attempt
+attemptOf (Stored other attempt item) = attempt
+attemptOf (Confirm other attempt item) = attempt
+attemptOf (Confirmed other attempt item) = attempt
+attemptOf Fetch = noAttempt
+attemptOf (Table other) = noAttempt
+
+unfoldable pub itemOf : Message → Item
+itemOf (Store attempt item) = item
+itemOf (Stored other attempt item) = item
+itemOf (Confirm other attempt item) = item
+itemOf (Confirmed other attempt item) = item
+itemOf Fetch = zeroItem
+itemOf (Table other) = zeroItem
+
+-- every number of a record but next and the rows
+unfoldable pub fieldsOf : Envelope → Fields
+fieldsOf e =
+    record {
+      kind = kindOf (e .message);
+      sender = e .sender;
+      addressee = e .addressee;
+      incarnation = e .incarnation;
+      other = otherOf (e .message);
+      attempt = attemptOf (e .message);
+      item = itemOf (e .message);
+    }
+
+-- "Only Table has rows: n of them"
+unfoldable pub rowsHeld : Message → ℕ → ℕ
+rowsHeld (Store attempt item) n = 0
+rowsHeld (Stored other attempt item) n = 0
+rowsHeld (Confirm other attempt item) n = 0
+rowsHeld (Confirmed other attempt item) n = 0
+rowsHeld Fetch n = 0
+rowsHeld (Table other) n = min n maxNodes
+
+-- the fields say no other incarnation, no attempt and no item
+abbrev pub noOther : Fields → Bool
+noOther f = sameIncarnation (f .other) noIncarnation
+
+abbrev pub noWrite : Fields → Bool
+noWrite f = sameAttempt (f .attempt) noAttempt && sameItem (f .item) zeroItem
+
+abbrev pub knownIf : Bool → Message → Known
+knownIf t m = cond t (known.Known m) known.Unknown
+
+-- the message that fields say. "Unused bytes are zero, and a read that finds otherwise gives a fault"; kind 0 and a kind
+-- above 6 are no message either.
+unfoldable pub messageOf : Fields → Known
+messageOf f =
+    cond (eqb (f .kind) storeKind) (knownIf (noOther f) (Store (f .attempt) (f .item)))
+    (cond (eqb (f .kind) storedKind) (known.Known (Stored (f .other) (f .attempt) (f .item)))
+    (cond (eqb (f .kind) confirmKind) (known.Known (Confirm (f .other) (f .attempt) (f .item)))
+    (cond (eqb (f .kind) confirmedKind) (known.Known (Confirmed (f .other) (f .attempt) (f .item)))
+    (cond (eqb (f .kind) fetchKind) (knownIf (noOther f && noWrite f) Fetch)
+    (cond (eqb (f .kind) tableKind) (knownIf (noWrite f) (Table (f .other)))
+    known.Unknown)))))

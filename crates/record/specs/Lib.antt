@@ -1,0 +1,4 @@
+pub mod Chunk
+pub mod Layout
+pub mod Kind
+pub mod Record
