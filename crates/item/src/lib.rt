@@ -4,10 +4,24 @@
 ghost use mathlib.Core.Path.{_≡_};
 ghost use Rattle.item.specs.Counter.{indexBelow, indexAtLargest, nextIndex, sameIncarnation, incarnationAtLargest, nextIncarnation, sameAttempt, attemptAtLargest, nextAttempt, earlier};
 ghost use Rattle.item.specs.Item.{tagsAgree, ranksBelow, sameItem, zeroItem};
+ghost use Rattle.item.specs.Maxima.{validSize};
 ghost use Rattle.item.specs.Row.{sameRow, zeroRow};
 
 // The most nodes that a group may have, and so the rows that a node keeps.
 pub const MAX_NODES: usize = 15;
+
+// Whether a group may have n nodes: n is odd, and from 3 to the most.
+pub fn valid_size(n: usize) -> bool
+    ensures { λ r. ⌜ r ≡ validSize n ⌝ }
+{
+    if n < 3 {
+        return false;
+    }
+    if MAX_NODES < n {
+        return false;
+    }
+    n % 2 == 1
+}
 
 // The number of a write. An index, an incarnation and an attempt are separate counters.
 pub struct Index(pub u64);

@@ -41,3 +41,9 @@ pub struct Envelope {
     pub incarnation: Incarnation,
     pub message: Message,
 }
+
+// A place for one message of a call that sends to several nodes: whether there is one, and the message.
+pub struct Outgoing {
+    pub present: bool,
+    pub envelope: Envelope,
+}

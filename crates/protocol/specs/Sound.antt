@@ -1,12 +1,11 @@
 -- When a node is sound at its place (document 01, Message store): "each with its place as number, this n, and unused
 -- fields zero; those it counted are below n, not itself, and fewer than f (Storing, Confirming) or f+1 (Fetching); those
 -- asked to confirm are exactly f others below n, and the counted are among them."
-use Prim.Native.Nat.{ℕ, zero, suc, _%_}
+use Prim.Native.Nat.{ℕ, zero, suc}
 use mathlib.Core.Bool.{Bool, true, false, cond, not, _&&_}
 use mathlib.Core.List.{List, [], _∷_}
-use lib.Dec.{ltb, leb, eqb}
+use lib.Dec.{ltb, eqb}
 use Rattle.item.specs.Counter.{sameIncarnation, sameAttempt}
-use Rattle.item.specs.Maxima.{maxNodes}
 use Rattle.item.specs.Row.{zeroRow, sameRow}
 use Rattle.item.specs.declared.Attempt.{Attempt}
 use Rattle.item.specs.declared.Row.{Row}
@@ -20,10 +19,6 @@ use Rattle.protocol.specs.declared.RowUse.{RowUse}
 use Rattle.protocol.specs.declared.RowUse.the-variants as row-use
 use Rattle.protocol.specs.declared.Stage.{Stage}
 use Rattle.protocol.specs.declared.Stage.the-variants.{Idle, Storing, Confirming}
-
--- "n odd, 3 to 15"
-unfoldable pub validSize : ℕ → Bool
-validSize n = leb 3 n && (leb n maxNodes && eqb (n % 2) 1)
 
 -- a test of every element of a list, each with its place, counted from k
 unfoldable pub everyFrom : {A : Type 0} → (ℕ → A → Bool) → ℕ → List A → Bool
