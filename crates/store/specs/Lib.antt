@@ -1,0 +1,5 @@
+pub mod Records
+pub mod Head
+pub mod Chain
+pub mod Sound
+pub mod Change
