@@ -1,0 +1,16 @@
+pub mod Replace
+pub mod Majority
+pub mod Rank
+pub mod History
+pub mod View
+pub mod Merge
+pub mod Change
+pub mod Quorum
+pub mod Invariant
+pub mod Turns
+pub mod Items
+pub mod Own
+pub mod Confirming
+pub mod Messages
+pub mod Returns
+pub mod Example
