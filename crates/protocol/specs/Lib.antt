@@ -11,4 +11,5 @@ pub mod Sound
 pub mod Table
 pub mod Operation
 pub mod Run
+pub mod Refusal
 pub mod Claim
