@@ -6,3 +6,5 @@ pub mod Rows
 pub mod Sending
 pub mod Cases
 pub mod Shapes
+pub mod Place
+pub mod Calls

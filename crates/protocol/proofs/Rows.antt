@@ -7,7 +7,7 @@ use mathlib.Core.Logic.{_≢_}
 use mathlib.Core.Bool.{Bool, true, false, cond, false≢true}
 use mathlib.Core.List.{List, [], _∷_}
 use lib.Dec.{eqb, ltb}
-use lib.ListN.{length, getD, set, length-set}
+use lib.ListN.{length, getD, set, replicate}
 use lib.Seq.{getD-set-same, getD-set-other}
 use borrow.Author.Tests.{eqb-true, eqb-false, ltb-false}
 use Rattle.item.specs.Item.{zeroItem, ranksBelow, sameItem}
@@ -22,7 +22,7 @@ use Rattle.item.specs.declared.Row.{Row}
 use Rattle.returns.specs.Merge.{Merged, merged-first, merged-higher, merged-lower, merged-level}
 use Rattle.returns.specs.View.{ViewNode}
 use Rattle.protocol.specs.Merge.{markedRow, mergeRow, mergeRows, lowestMarked}
-use Rattle.protocol.specs.Node.{rowOf, ownItem, storedRow, rebuiltRow, storingBegun, withRow}
+use Rattle.protocol.specs.Node.{rowOf, ownItem, storedRow, zeroRows, storingBegun, withRow}
 use Rattle.protocol.specs.declared.Node.{Node}
 use Rattle.protocol.specs.declared.Phase.{Phase}
 
@@ -100,3 +100,13 @@ none-marked (row ∷ rows) zero l =
 none-marked (row ∷ rows) (suc x) l =
     by-cond (λ c. suc x < c → getD rows x zeroRow .marked ≡ false) (row .marked) zero (suc (lowestMarked rows))
     (λ e h. absurd (omega arith)) (λ e h. none-marked rows x (omega arith)) l
+
+-- rows that are all zero
+zero-replicated : (m x : ℕ) → getD (replicate m zeroRow) x zeroRow ≡ zeroRow
+zero-replicated zero x = refl
+zero-replicated (suc m) zero = refl
+zero-replicated (suc m) (suc x) = zero-replicated m x
+
+pub zero-row : (node : Node) (x : ℕ) → node .rows ≡ zeroRows → rowOf node x .item ≡ zeroItem
+unfolding rowOf
+zero-row node x e = rw e (ap (λ (r : Row). r .item) (zero-replicated maxNodes x))
