@@ -1,4 +1,13 @@
 pub mod Seen
+pub mod InView
+pub mod Phases
+pub mod Counts
+pub mod Rows
+pub mod Sending
+pub mod Cases
+pub mod Shapes
+pub mod Place
+pub mod Calls
 pub mod Refusals
 pub mod Inbox
 pub mod Fitting
