@@ -8,3 +8,7 @@ pub mod Cases
 pub mod Shapes
 pub mod Place
 pub mod Calls
+pub mod Storing
+pub mod Confirming
+pub mod Fetching
+pub mod Delivery
