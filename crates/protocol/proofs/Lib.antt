@@ -8,6 +8,10 @@ pub mod Cases
 pub mod Shapes
 pub mod Place
 pub mod Calls
+pub mod Storing
+pub mod Confirming
+pub mod Fetching
+pub mod Delivery
 pub mod Refusals
 pub mod Inbox
 pub mod Fitting

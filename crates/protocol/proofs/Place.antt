@@ -6,19 +6,21 @@ use mathlib.Core.Path.{_≡_, refl, sym, ap, subst}
 use mathlib.Core.Logic.{_≢_}
 use mathlib.Core.Bool.{Bool, true, false}
 use lib.Dec.{eqb}
-use lib.ListN.{length}
+use lib.ListN.{length, set}
 use borrow.Author.Tests.{eqb-true, eqb-false}
 use Rattle.item.specs.declared.Attempt.{Attempt}
 use Rattle.item.specs.declared.Incarnation.{Incarnation}
 use Rattle.item.specs.declared.Item.{Item}
 use Rattle.returns.specs.Change.{Change, BeginsStoring, elsewhere}
 use Rattle.returns.specs.History.{Note, quiet}
+use Rattle.returns.specs.Majority.{count, groupSize}
+use Rattle.returns.specs.Replace.{replaced}
 use Rattle.returns.specs.View.{up, storing, live, ViewNode, View}
-use Rattle.protocol.specs.Node.{rowOf, ownItem, storingBegun}
+use Rattle.protocol.specs.Node.{rowOf, ownItem, countPeers, storingBegun}
 use Rattle.protocol.specs.declared.Node.{Node}
 use Rattle.protocol.specs.declared.Phase.{Phase}
-use Rattle.protocol.proofs.Counts.{none-present}
-use Rattle.protocol.proofs.InView.{Shaped, InView, number-is}
+use Rattle.protocol.proofs.Counts.{none-present, peerUnder, count-group}
+use Rattle.protocol.proofs.InView.{InView, number-is, counted-sound}
 use Rattle.protocol.proofs.Seen.{seen, seenPhase, stageIn}
 
 pub by-place : {A : Type 0} (k x : ℕ) → (k ≡ x → A) → (k ≢ x → A) → A
@@ -32,6 +34,16 @@ module _ {f n x k : ℕ} {g : View} {node : Node} (v : InView f n x k g node) wh
   -- row x is among the node's rows
   pub row-there : x < length (node .rows)
   row-there = omega (arith, v .x-below, v .fits, v .shaped .rows-length)
+
+  -- and a peer of the group among those that it counts
+  pub peer-there : (q : ℕ) → q < n → q < length (node .counted)
+  peer-there q l = omega (arith, v .fits, v .shaped .counted-length)
+
+  -- with one more of the group, those counted are as many as the list counts
+  pub counted-of-group : (q : ℕ) (i : Incarnation) → q < n
+      → countPeers (set (node .counted) q (peerUnder i)) ≡ count (replaced (g .node k .counted) q true) (groupSize f)
+  counted-of-group q i l =
+      rw (v .view, ← v .size) (count-group k n (node .counted) (counted-sound n k node (v .sound)) (omega (arith, v .fits, v .shaped .counted-length)) q i l)
 
   pub numbered : node .number ≡ k
   numbered = number-is n k node (v .sound)

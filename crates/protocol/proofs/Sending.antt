@@ -4,9 +4,9 @@ use Prim.Native.Nat.{ℕ, zero, suc}
 use mathlib.Core.Path.{_≡_, refl, sym, ap, _∙_, subst, subst₂}
 use mathlib.Core.Logic.{_⊎_, inl, inr}
 use mathlib.Core.Bool.{Bool, true, false, cond, not, _&&_, false≢true}
-use mathlib.Core.List.{List, [], _∷_, List·Memᴰ, List·Memᴰ·cases-cons, List·Memᴰ·not-nil}
+use mathlib.Core.List.{List, [], _∷_, List·Memᴰ, List·Memᴰ·head, List·Memᴰ·cases-cons, List·Memᴰ·not-nil}
 use lib.Dec.{eqb, ltb}
-use borrow.Author.Tests.{eqb-true}
+use borrow.Author.Tests.{eqb-true, eq-eqb}
 use Rattle.item.specs.Maxima.{maxNodes}
 use Rattle.item.specs.Tests.{by-cond, and-left, and-right}
 use Rattle.message.specs.declared.Envelope.{Envelope}
@@ -25,7 +25,8 @@ use Rattle.protocol.specs.Write.{sendStore, sendFetch}
 use Rattle.protocol.specs.declared.Node.{Node}
 use Rattle.protocol.specs.declared.Sends.{Sends}
 use Rattle.protocol.specs.declared.Sends.the-variants as sends
-use Rattle.protocol.proofs.Seen.{seen, stageIn, ifAt, seenAs, seenMessage, Tied}
+use Rattle.protocol.specs.declared.Step.{Step}
+use Rattle.protocol.proofs.Seen.{seen, stageIn, ifAt, seenAs, seenMessage, noteOf, Tied}
 
 -- what is outgoing goes to some node
 outgoing-from : (node : Node) (s : Sends) (back k count : ℕ) (o : Outgoing) → List·Memᴰ o (outgoingFrom node s back k count)
@@ -108,3 +109,12 @@ module _ (f x : ℕ) (g : View) (k back : ℕ) (node : Node) (numbered : node .n
         (λ to e. subst₂ (λ (s d : ℕ). Each (MaySend x g k (seen x node)) (seenAs x m s d (node .incarnation) (rowItems node)))
         (sym numbered) (sym (eqb-true to back e)) h);
   }
+
+-- a decision on a message from node `back`, with the note of its answer
+abbrev pub Delivered : (f x : ℕ) → View → (k back : ℕ) → Step → Type 0
+Delivered f x g k back step = Tied f x g (noteOf x k (step .answer)) k back step
+
+-- what only concerns x if node p is x
+pub sent-at : (P : ViewMessage → Type 0) (x p : ℕ) (m : ViewMessage) → p ≡ x → Each P (ifAt x p m) → P m
+sent-at P x p m e h =
+    subst (λ (t : Bool). Each P (cond t (m ∷ []) []) → P m) (sym (eq-eqb p x e)) (λ k. k m (List·Memᴰ·head refl)) h
