@@ -1,16 +1,16 @@
 -- Every number of a node fits the width that a record has for it: every decision keeps this, and sends only numbers that fit.
 -- A counter rises only below its largest, a tag comes from an event whose tag fits, and all else from nodes and messages.
-use Prim.Native.Nat.{ℕ, zero, suc, _^_, _<_, _≤_}
+use Prim.Native.Nat.{ℕ, zero, suc, _^_, _<_}
 use native.Mathlib.Omega.{arith}
-use mathlib.Core.Path.{_≡_, refl, sym, ap, subst, _∙_}
-use mathlib.Core.Bool.{Bool, true, false, cond, _&&_}
+use mathlib.Core.Path.{_≡_, refl}
+use mathlib.Core.Bool.{Bool, true, false}
 use mathlib.Core.List.{List, [], _∷_}
-use lib.Dec.{eqb, ltb}
+use lib.Dec.{eqb}
 use lib.ListN.{length, getD, set, replicate, getD-replicate, List·getD-eq-default, length-replicate}
 use lib.Seq.{getD-set-same, getD-set-other, set-out}
 use borrow.Author.Tests.{eqb-true, eqb-false}
 use Rattle.endian.specs.PartLaws.{by-order}
-use Rattle.item.specs.Counter.{largest, indexAtLargest, nextIndex, incarnationAtLargest, nextIncarnation, attemptAtLargest, nextAttempt, sameIncarnation, earlier}
+use Rattle.item.specs.Counter.{largest, indexAtLargest, nextIndex, incarnationAtLargest, nextIncarnation, attemptAtLargest, nextAttempt}
 use Rattle.item.specs.Item.{zeroItem, ranksBelow, sameItem}
 use Rattle.item.specs.Maxima.{maxNodes, tagSize}
 use Rattle.item.specs.Row.{zeroRow}
@@ -27,26 +27,16 @@ use Rattle.record.specs.Kind.{otherOf, attemptOf, itemOf}
 use Rattle.record.specs.Layout.{indexSize}
 use Rattle.record.specs.RoundTrip.{ItemFits}
 use Rattle.protocol.specs.Answer.{ok, refused}
-use Rattle.protocol.specs.Deliver.{onMessage}
-use Rattle.protocol.specs.Fetching.{onFetch, onTable, tableCounted, withTable, noneCounted, nodeRecover, hasConflict, stopped, writtenBack}
-use Rattle.protocol.specs.Merge.{markedRow, mergeRow, mergeRows}
-use Rattle.protocol.specs.Node.{noPeer, noPeers, zeroRows, half, rowOf, ownItem, storedRow, rebuiltRow, peerOf, countPeers, blankNode, crashed, started, storingBegun, withRow, withCounted, confirmingBegun, writeEnded, withRows, freshNode}
+use Rattle.protocol.specs.Merge.{mergeRow, mergeRows}
+use Rattle.protocol.specs.Node.{noPeer, noPeers, zeroRows, rowOf, ownItem, storedRow, peerOf, blankNode, crashed, started, storingBegun, writeEnded}
 use Rattle.protocol.specs.Outgoing.{messageTo}
-use Rattle.protocol.specs.Phase.{isDown, isUp, isUpIdle, isFetching, isStoring, isConfirming, atStage}
-use Rattle.protocol.specs.Storing.{storeVerdict, replyStore, onStore, ownWrite, isCounted, sendConfirm, storedCounted, onStored, storedUnder, onConfirm, askedUnder, storeSuccess, confirmedCounted, onConfirmed}
+use Rattle.protocol.specs.Phase.{isDown, isUpIdle, isFetching}
 use Rattle.protocol.specs.Write.{sendStore, sendFetch, nextItem, written, writeAtLargest, writeStep, retried, nothingToRetry, retryStep, crashStep, startStep}
 use Rattle.protocol.specs.declared.Node.{Node}
-use Rattle.protocol.specs.declared.Peer.{Peer}
 use Rattle.protocol.specs.declared.Phase.{Phase}
-use Rattle.protocol.specs.declared.Phase.the-variants.{Up, Returning}
 use Rattle.protocol.specs.declared.Refusal.{Refusal}
-use Rattle.protocol.specs.declared.Refusal.the-variants.{NotTaken, Stale, Counted}
-use Rattle.protocol.specs.declared.Sends.{Sends}
 use Rattle.protocol.specs.declared.Sends.the-variants as sends
-use Rattle.protocol.specs.declared.Stage.the-variants.{Storing, Confirming}
 use Rattle.protocol.specs.declared.Step.{Step}
-use Rattle.protocol.specs.declared.Verdict.{Verdict}
-use Rattle.protocol.specs.declared.Verdict.the-variants as verdict
 
 -- "incarnation and attempt 32-bit": four bytes
 abbrev pub CounterFits : ℕ → Type 0

@@ -1,50 +1,41 @@
 -- Delivery keeps every number of a node within its width, and sends only numbers that fit, if the message and the items
 -- beside it fit.
-use Prim.Native.Nat.{ℕ, zero, suc, _^_, _<_, _≤_}
+use Prim.Native.Nat.{ℕ, suc}
 use native.Mathlib.Omega.{arith}
-use mathlib.Core.Path.{_≡_, refl, sym, ap, subst, _∙_}
-use mathlib.Core.Bool.{Bool, true, false, cond, _&&_}
-use mathlib.Core.List.{List, [], _∷_}
-use lib.Dec.{eqb, ltb}
-use lib.ListN.{length, getD, set, replicate, getD-replicate, List·getD-eq-default, length-replicate}
-use lib.Seq.{getD-set-same, getD-set-other, set-out}
-use borrow.Author.Tests.{eqb-true, eqb-false}
-use Rattle.endian.specs.PartLaws.{by-order}
-use Rattle.item.specs.Counter.{largest, indexAtLargest, nextIndex, incarnationAtLargest, nextIncarnation, attemptAtLargest, nextAttempt, sameIncarnation, earlier}
-use Rattle.item.specs.Item.{zeroItem, ranksBelow, sameItem}
-use Rattle.item.specs.Maxima.{maxNodes, tagSize}
+use mathlib.Core.Path.{_≡_, refl, _∙_}
+use mathlib.Core.Bool.{Bool, true, cond, _&&_}
+use mathlib.Core.List.{List}
+use lib.Dec.{ltb}
+use lib.ListN.{getD}
+use Rattle.item.specs.Counter.{sameIncarnation}
+use Rattle.item.specs.Item.{zeroItem}
 use Rattle.item.specs.Row.{zeroRow}
 use Rattle.item.specs.Tests.{by-cond}
 use Rattle.item.specs.declared.Attempt.{Attempt}
 use Rattle.item.specs.declared.Incarnation.{Incarnation}
-use Rattle.item.specs.declared.Index.{Index}
 use Rattle.item.specs.declared.Item.{Item}
 use Rattle.item.specs.declared.Row.{Row}
-use Rattle.item.specs.declared.Tag.{Tag}
+use Rattle.message.specs.declared.Envelope.{Envelope}
 use Rattle.message.specs.declared.Message.{Message}
 use Rattle.message.specs.declared.Message.the-variants as message
 use Rattle.record.specs.Kind.{otherOf, attemptOf, itemOf}
-use Rattle.record.specs.Layout.{indexSize}
 use Rattle.record.specs.RoundTrip.{ItemFits}
 use Rattle.protocol.proofs.Fitting.{CounterFits, NodeFits, MessageFits, StepFits, zero-fits, set-any, merged-fit, none-fits, crashed-fits, ended-fits, own-fits, store-sent, fetch-fits, by-refused, by-answer, by-quiet}
 use Rattle.protocol.specs.Answer.{ok, refused}
-use Rattle.protocol.specs.Deliver.{onMessage}
+use Rattle.protocol.specs.Deliver.{onMessage, deliverStep}
 use Rattle.protocol.specs.Fetching.{onFetch, onTable, tableCounted, withTable, noneCounted, nodeRecover, hasConflict, stopped, writtenBack}
-use Rattle.protocol.specs.Merge.{markedRow, mergeRow, mergeRows}
-use Rattle.protocol.specs.Node.{noPeer, noPeers, zeroRows, half, rowOf, ownItem, storedRow, rebuiltRow, peerOf, countPeers, blankNode, crashed, started, storingBegun, withRow, withCounted, confirmingBegun, writeEnded, withRows, freshNode}
+use Rattle.protocol.specs.Merge.{mergeRows}
+use Rattle.protocol.specs.Node.{noPeer, half, rowOf, ownItem, storedRow, peerOf, countPeers, blankNode, crashed, withRow, withCounted, confirmingBegun, writeEnded, withRows}
 use Rattle.protocol.specs.Outgoing.{messageTo}
-use Rattle.protocol.specs.Phase.{isDown, isUp, isUpIdle, isFetching, isStoring, isConfirming, atStage}
+use Rattle.protocol.specs.Phase.{isUp, isFetching, isStoring, isConfirming}
 use Rattle.protocol.specs.Storing.{storeVerdict, replyStore, onStore, ownWrite, isCounted, sendConfirm, storedCounted, onStored, storedUnder, onConfirm, askedUnder, storeSuccess, confirmedCounted, onConfirmed}
-use Rattle.protocol.specs.Write.{sendStore, sendFetch, nextItem, written, writeAtLargest, writeStep, retried, nothingToRetry, retryStep, crashStep, startStep}
 use Rattle.protocol.specs.declared.Node.{Node}
 use Rattle.protocol.specs.declared.Peer.{Peer}
 use Rattle.protocol.specs.declared.Phase.{Phase}
-use Rattle.protocol.specs.declared.Phase.the-variants.{Up, Returning}
-use Rattle.protocol.specs.declared.Refusal.{Refusal}
+use Rattle.protocol.specs.declared.Phase.the-variants.{Returning}
 use Rattle.protocol.specs.declared.Refusal.the-variants.{NotTaken, Stale, Counted}
-use Rattle.protocol.specs.declared.Sends.{Sends}
 use Rattle.protocol.specs.declared.Sends.the-variants as sends
-use Rattle.protocol.specs.declared.Stage.the-variants.{Storing, Confirming}
+use Rattle.protocol.specs.declared.Stage.the-variants.{Storing}
 use Rattle.protocol.specs.declared.Step.{Step}
 use Rattle.protocol.specs.declared.Verdict.{Verdict}
 use Rattle.protocol.specs.declared.Verdict.the-variants as verdict
@@ -159,7 +150,7 @@ module _ (node : Node) (N : NodeFits node) (sender : ℕ) (i : Incarnation) (I :
       let rows : List Row = mergeRows (noneCounted node) (node .rows) items in
       counted-fits (withRows node rows) (rows-fits node N rows (merged-fit (noneCounted node) (node .rows) items (N .items-fit) fit)) sender i I
 
-  pub message-fits : (m : Message) → MessageFits m → StepFits node (onMessage m node sender i items)
+  message-fits : (m : Message) → MessageFits m → StepFits node (onMessage m node sender i items)
   unfolding onMessage onStore onStored onConfirm onConfirmed onFetch onTable otherOf attemptOf itemOf withCounted withTable withRows
   message-fits (message.Store a k) M =
       by-cond (StepFits node) (isUp (node .phase)) _ _
@@ -184,3 +175,8 @@ module _ (node : Node) (N : NodeFits node) (sender : ℕ) (i : Incarnation) (I :
   message-fits (message.Table o) M =
       counted-step node N (isFetching (node .phase)) (sameIncarnation o (node .incarnation)) sender _
       (through node (withTable node sender i items) refl refl _ (table-fits (withTable node sender i items) with-table-fits))
+
+pub deliver-fits : (node : Node) (e : Envelope) (items : List Item) → NodeFits node → CounterFits (e .incarnation .0)
+    → ((j : ℕ) → ItemFits (getD items j zeroItem)) → MessageFits (e .message) → StepFits node (deliverStep node e items)
+unfolding deliverStep
+deliver-fits node e items N I fit M = message-fits node N (e .sender) (e .incarnation) I items fit (e .message) M

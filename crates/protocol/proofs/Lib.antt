@@ -12,7 +12,14 @@ pub mod Storing
 pub mod Confirming
 pub mod Fetching
 pub mod Delivery
+pub mod Deciding
 pub mod Refusals
 pub mod Inbox
 pub mod Fitting
 pub mod FittingDelivery
+pub mod Sent
+pub mod Stands
+pub mod Told
+pub mod Performed
+pub mod Start
+pub mod Returns
