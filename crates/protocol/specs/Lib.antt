@@ -8,3 +8,8 @@ pub mod Fetching
 pub mod Deliver
 pub mod Outgoing
 pub mod Sound
+pub mod Table
+pub mod Operation
+pub mod Run
+pub mod Refusal
+pub mod Claim

@@ -7,7 +7,9 @@ use item::Row;
 use item::Tag;
 use message::Message;
 ghost use mathlib.Core.Path.{_≡_};
+ghost use Rattle.protocol.specs.Claim.{EveryReturn};
 ghost use Rattle.protocol.specs.Node.{blankNode, noPeer};
+ghost use Rattle.protocol.specs.Refusal.{RefusalsChangeNothing};
 
 // How far the present write has come.
 pub enum Stage {
@@ -170,3 +172,15 @@ impl Node {
         }
     }
 }
+
+// Demand 1, of every operation on any table and store: a refused call leaves both as they were, and its number is one
+// that document 01 lists for it.
+pub fn refusals_change_nothing()
+    ensures { λ r. ⌜ RefusalsChangeNothing ⌝ }
+{}
+
+// Demand 3, of every run from an accepted set-up: a node that returns names its last item, or an item of the next index
+// that it had itself begun.
+pub fn every_return()
+    ensures { λ r. ⌜ EveryReturn ⌝ }
+{}

@@ -1,0 +1,73 @@
+-- The premises of every tie lemma, gathered in two records: a sound node k as x's view shows it, and a message that came to
+-- it. What `soundNode` and `validSize` say is read off here once.
+use Prim.Native.Nat.{ℕ, suc, _+_, _%_, _≤_, _<_}
+use native.Mathlib.Omega.{arith}
+use mathlib.Core.Path.{_≡_}
+use mathlib.Core.Logic.{_≢_}
+use mathlib.Core.Bool.{Bool, true, _&&_}
+use mathlib.Core.List.{List}
+use lib.Dec.{eqb, leb}
+use lib.ListN.{length}
+use borrow.Author.Tests.{eqb-true, leb-true}
+use Rattle.item.specs.Maxima.{maxNodes, validSize}
+use Rattle.item.specs.Tests.{and-left, and-right}
+use Rattle.item.specs.declared.Item.{Item}
+use Rattle.message.specs.declared.Envelope.{Envelope}
+use Rattle.returns.specs.Majority.{groupSize}
+use Rattle.returns.specs.View.{View, Sent, Each}
+use Rattle.protocol.specs.Node.{half, countPeers}
+use Rattle.protocol.specs.Sound.{soundNode, attemptFits, rowsSound, peersSound, phaseCounts, countedAsked}
+use Rattle.protocol.specs.declared.Node.{Node}
+use Rattle.protocol.proofs.Seen.{seen, seenMessage}
+
+-- the lists of a node stand for arrays
+pub record Shaped (node : Node) : Type 0 where
+  pub rows-length : length (node .rows) ≡ maxNodes
+  pub counted-length : length (node .counted) ≡ maxNodes
+  pub asked-length : length (node .asked) ≡ maxNodes
+
+-- node k of a group of n = 2f + 1, sound, and what the view g of x shows of it
+pub record InView (f n x k : ℕ) (g : View) (node : Node) : Type 0 where
+  pub size : n ≡ groupSize f
+  pub fits : n ≤ maxNodes
+  pub x-below : x < n
+  pub k-below : k < n
+  pub sound : soundNode n k node ≡ true
+  pub shaped : Shaped node
+  pub view : g .node k ≡ seen x node
+
+-- a message at its addressee k, with the items beside it; what x sees of it was sent
+pub record Arrived (n x k : ℕ) (g : View) (e : Envelope) (items : List Item) : Type 0 where
+  pub to-k : e .addressee ≡ k
+  pub sender-below : e .sender < n
+  pub from-other : e .sender ≢ k
+  pub items-length : length items ≡ maxNodes
+  pub was-sent : Each (λ m. Sent m g) (seenMessage x e items)
+
+-- a valid group has 2f + 1 nodes, and a place for each
+pub odd-size : (n : ℕ) → validSize n ≡ true → n ≡ suc (half n + half n)
+unfolding validSize half
+odd-size n e = let odd : n % 2 ≡ 1 = search (and-left, and-right, eqb-true) in omega arith
+
+pub size-fits : (n : ℕ) → validSize n ≡ true → n ≤ maxNodes
+unfolding validSize
+size-fits n e = search (and-left, and-right, leb-true)
+
+-- f of a group of 2f + 1
+pub half-is : (n f : ℕ) → n ≡ groupSize f → half n ≡ f
+unfolding half
+half-is n f e = omega arith
+
+-- what a sound node's fields say
+module _ (n k : ℕ) (node : Node) (e : soundNode n k node ≡ true) where
+  pub number-is : node .number ≡ k
+  unfolding soundNode
+  number-is = search (and-left, eqb-true)
+
+  pub size-is : node .n ≡ n
+  unfolding soundNode
+  size-is = search (and-left, and-right, eqb-true)
+
+  pub counted-sound : peersSound k n (node .counted) ≡ true
+  unfolding soundNode
+  counted-sound = search (and-left, and-right)

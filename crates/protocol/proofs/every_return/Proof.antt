@@ -1,0 +1,11 @@
+-- `protocol::every_return` meets its contract, by the theorem of `Returns`; that records read back is record's law.
+use Rattle.record.specs.RoundTrip.{reads-back}
+use Rattle.protocol.proofs.every_return.Statement.{statement}
+use Rattle.protocol.proofs.every_return.Tie as tie
+use Rattle.protocol.proofs.Returns.{every-return-from}
+
+returns : tie.Need-returns
+returns c = every-return-from reads-back
+
+pub every-return-spec : {M : Type 1} → statement M
+every-return-spec = tie.close (tie.spec returns)

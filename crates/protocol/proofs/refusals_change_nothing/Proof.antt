@@ -1,0 +1,10 @@
+-- `protocol::refusals_change_nothing` meets its contract, by the law proved in `Refusals`.
+use Rattle.protocol.proofs.refusals_change_nothing.Statement.{statement}
+use Rattle.protocol.proofs.refusals_change_nothing.Tie as tie
+use Rattle.protocol.proofs.Refusals.{refusals-change-nothing}
+
+returns : tie.Need-returns
+returns c = refusals-change-nothing
+
+pub refusals-change-nothing-spec : {M : Type 1} → statement M
+refusals-change-nothing-spec = tie.close (tie.spec returns)
