@@ -18,9 +18,9 @@ use Rattle.endian.specs.PartLaws.{by-order, part-is, part-none, part-with-other
 use Rattle.endian.specs.Number.{value, bytes, numberAt, withNumber}
 use Rattle.endian.specs.NumberLaws.{length-bytes, length-with-number}
 use Rattle.endian.specs.Zero.{zeros, allZero}
-use Rattle.record.specs.declared.kind.Fields.{Fields}
-use Rattle.record.specs.declared.kind.Known.{Known}
-use Rattle.record.specs.declared.kind.Known.the-variants as known
+use Rattle.kinds.specs.declared.Fields.{Fields}
+use Rattle.kinds.specs.declared.Known.{Known}
+use Rattle.kinds.specs.declared.Known.the-variants as known
 use Rattle.record.specs.declared.Reading.{Reading}
 use Rattle.record.specs.declared.Reading.the-variants.{Found, Fault}
 use Rattle.record.specs.Layout.{recordSize, nextAt, kindAt, addressAt, incarnationAt, otherAt, attemptAt, itemAt, rowsAt, rowSize, indexSize, itemBytes, fieldBytes, rowsBytes, padded, itemIn, itemsIn, fieldsIn, rowsOf}
