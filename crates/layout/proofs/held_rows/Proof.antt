@@ -1,5 +1,4 @@
 -- `layout::held_rows` meets its contract: as many rows as the kind has, padded.
-use native.Mathlib.Omega.{arith}
 use Rattle.kinds.specs.KindLaws.{rows-held-most}
 use Rattle.layout.specs.Layout.{heldRows}
 use borrow.Author.Needs.{needs}
@@ -10,7 +9,7 @@ rows-held-requires : tie.Need-rows-held-requires
 rows-held-requires c κs = search needs
 
 padded-rows-requires : tie.Need-padded-rows-requires
-padded-rows-requires c κs = omega (arith, c .rows-held .ensures, rows-held-most (c .before .args .message) (c .before .args .n))
+padded-rows-requires c κs = rw (c .rows-held .ensures) (rows-held-most _ _)
 
 returns : tie.Need-returns
 unfolding heldRows

@@ -5,6 +5,8 @@ use mathlib.Core.Path.{sym, _∙_}
 use denote.Ref.{now}
 use Rattle.item.specs.Tests.{refuted, granted}
 use borrow.Author.Tests.{eq-eqb}
+use Rattle.item.specs.Maxima.{maxNodes}
+use Prim.Native.Nat.{_≤_}
 use Rattle.kinds.specs.KindLaws.{rows-held-most}
 use Rattle.record.specs.RecordLaws.{read-found}
 use Rattle.record.specs.Record.{readRecord, readAs, zeroAfterRows}
@@ -32,13 +34,13 @@ rows-held-requires : tie.Need-rows-held-requires
 rows-held-requires c κs = search needs
 
 mul-from : tie.Need-mul-from
-mul-from c = omega (arith, c .rows-held .ensures, rows-held-most (c .before .before .message .given .0 .0) (c .before .before .before .before .before .before .before .args .n))
+mul-from c = let h : c .rows-held .result ≤ maxNodes = rw (c .rows-held .ensures) (rows-held-most _ _) in omega arith
 
 add-from : tie.Need-add-from
-add-from c = omega (arith, c .rows-held .ensures, rows-held-most (c .before .before .message .given .0 .0) (c .before .before .before .before .before .before .before .args .n))
+add-from c = let h : c .rows-held .result ≤ maxNodes = rw (c .rows-held .ensures) (rows-held-most _ _) in omega arith
 
 zero-from-requires : tie.Need-zero-from-requires
-zero-from-requires c κs = omega (arith, c .rows-held .ensures, rows-held-most (c .before .before .message .given .0 .0) (c .before .before .before .before .before .before .before .args .n), c .before .before .before .before .before .before .before .pre)
+zero-from-requires c κs = let h : c .rows-held .result ≤ maxNodes = rw (c .rows-held .ensures) (rows-held-most _ _) in omega (arith, c .before .before .before .before .before .before .before .pre)
 
 returns-2 : tie.Need-returns-2
 unfolding readRecord readAs zeroAfterRows
