@@ -1,2 +1,2 @@
 -- The kinds of message, as the crate `kinds` has them.
-pub use Rattle.kinds.specs.Kind.{kindOf, otherOf, attemptOf, itemOf, noAttempt, noIncarnation, filled, fieldsOf, rowsHeld, noWrite, knownIf, messageOf}
+unfoldable pub use Rattle.kinds.specs.Kind.{kindOf, otherOf, attemptOf, itemOf, noAttempt, noIncarnation, filled, fieldsOf, rowsHeld, noWrite, knownIf, messageOf}
