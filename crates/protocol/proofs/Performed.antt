@@ -15,7 +15,6 @@ use Rattle.item.specs.declared.Item.{Item}
 use Rattle.item.specs.declared.Tag.{Tag}
 use Rattle.record.specs.Layout.{itemsIn, rowsOf}
 use Rattle.record.specs.Record.{readRecord}
-use Rattle.record.specs.RoundTrip.{ReadsBack}
 use Rattle.record.specs.declared.Reading.{Reading}
 use Rattle.record.specs.declared.Reading.the-variants.{Found, Fault}
 use Rattle.returns.specs.Change.{same}
@@ -95,7 +94,7 @@ write-ok node tag =
     (λ _ e. absurd (false≢true (sym e))) (λ _ e. refl))
     (λ _ e. absurd (false≢true (sym e)))
 
-module _ (reads-back : ReadsBack) (f n x : ℕ) (odd : n ≡ suc (f + f)) (fits : n ≤ maxNodes) (x-below : x < n)
+module _ (f n x : ℕ) (odd : n ≡ suc (f + f)) (fits : n ≤ maxNodes) (x-below : x < n)
     (table : List Node) (store : List ℕ) (g : View) (S : Stands n x table store g) where
   -- on a sound table and store
   module _ (sound : soundRecords (recordsOf store) ≡ true) (sound-table : soundTable n table ≡ true) where
@@ -118,7 +117,7 @@ module _ (reads-back : ReadsBack) (f n x : ℕ) (odd : n ≡ suc (f + f)) (fits 
         → Tells f n x g note (carriedOut table store (recordsOf store) k back step)
     decided note q k back step h =
         let s : soundNode n k (nodeAt table k) ≡ true = node-sound n table k sound-table h in
-        carried reads-back f n x fits x-below table store g S note q k back step h (table-count n table sound-table)
+        carried f n x fits x-below table store g S note q k back step h (table-count n table sound-table)
         (number-is n k (nodeAt table k) s) (size-is n k (nodeAt table k) s)
 
     -- an event at a node that the call names

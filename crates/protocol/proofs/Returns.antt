@@ -12,7 +12,6 @@ use Rattle.item.specs.Item.{zeroItem}
 use Rattle.item.specs.Maxima.{maxNodes, validSize}
 use Rattle.item.specs.Tests.{by-cond, and-left}
 use Rattle.item.specs.declared.Item.{Item}
-use Rattle.record.specs.RoundTrip.{ReadsBack}
 use Rattle.record.specs.declared.Reading.{Reading}
 use Rattle.record.specs.declared.Reading.the-variants.{Found, Fault}
 use Rattle.returns.specs.History.{Note, returns, History, atSetUp, afterNote, May}
@@ -124,7 +123,7 @@ module _ (x : ℕ) (e : Event) (store : List ℕ) (a : Answer) (h : History) (it
       go (inl z) = inl (z ∙ ap (λ (i : Item). lastFrom x i before) moved)
       go (inr z) = inr (z .0 ∙ ap (λ (i : Item). suc (lastFrom x i before .index .0)) moved, among (z .1))
 
-module _ (reads-back : ReadsBack) (f n : ℕ) (odd : n ≡ suc (f + f)) (fits : n ≤ maxNodes) where
+module _ (f n : ℕ) (odd : n ≡ suc (f + f)) (fits : n ≤ maxNodes) where
   -- along the calls of a run, from any point of it
   along : (x : ℕ) → x < n → (events : List Event) → TagsFit events → (table : List Node) (store : List ℕ) (g : View) (h : History)
       → Stands n x table store g → Invariant f x h g → (before : List Call) (call : Call) (after : List Call)
@@ -143,7 +142,7 @@ module _ (reads-back : ReadsBack) (f n : ℕ) (odd : n ≡ suc (f + f)) (fits : 
       note = told x e (deliveredBy e store) a
 
       G : Goes f n x g note (perform e table store)
-      G = performed reads-back f n x odd fits below table store g S e (t .0)
+      G = performed f n x odd fits below table store g S e (t .0)
 
       below-odd : x < suc (f + f)
       below-odd = omega arith
@@ -185,7 +184,7 @@ module _ (reads-back : ReadsBack) (f n : ℕ) (odd : n ≡ suc (f + f)) (fits : 
       a = perform e table store .answer
 
       G : Goes f n 0 g (told 0 e (deliveredBy e store) a) (perform e table store)
-      G = performed reads-back f n 0 odd fits some table store g S e (t .0)
+      G = performed f n 0 odd fits some table store g S e (t .0)
 
       rest : List Call
       rest = calls (perform e table store .table) (perform e table store .store) events
@@ -215,18 +214,17 @@ claimed-first x item before (inr m) = inr (m .0, go (m .1))
     go (inl k) = absurd (List·Memᴰ·not-nil k)
     go (inr k) = k
 
-module _ (reads-back : ReadsBack) where
-  pub every-return-from : EveryReturn
-  unfolding EveryReturn
-  every-return-from n table store ok events t before call after eq x item R =
-      let U : SetUpTo n (setUp n table store) = set-up-is n table store ok in
-      let f : ℕ = half n in
-      let odd : n ≡ suc (f + f) = odd-size n (U .valid) in
-      let fits : n ≤ maxNodes = size-fits n (U .valid) in
-      let first : (y : ℕ) → Stands n y (setUp n table store .table) (setUp n table store .store) (record { node = firstNodes n y; sent = [] })
-      = λ y. rw (U .table-is, U .store-is) (first-stands n y) in
-      let below : x < n = below-n reads-back f n odd fits x (some-node n (U .valid)) events t _ _ _ (first 0) before call after eq item R in
-      let odd-below : x < suc (f + f) = omega arith in
-      claimed-first x item before
-      (along reads-back f n odd fits x below events t _ _ _ atSetUp (first x)
-      (invariant-set-up f x odd-below (firstNodes n x) (first-set-up n x)) before call after eq item R)
+pub every-return : EveryReturn
+unfolding EveryReturn
+every-return n table store ok events t before call after eq x item R =
+    let U : SetUpTo n (setUp n table store) = set-up-is n table store ok in
+    let f : ℕ = half n in
+    let odd : n ≡ suc (f + f) = odd-size n (U .valid) in
+    let fits : n ≤ maxNodes = size-fits n (U .valid) in
+    let first : (y : ℕ) → Stands n y (setUp n table store .table) (setUp n table store .store) (record { node = firstNodes n y; sent = [] })
+    = λ y. rw (U .table-is, U .store-is) (first-stands n y) in
+    let below : x < n = below-n f n odd fits x (some-node n (U .valid)) events t _ _ _ (first 0) before call after eq item R in
+    let odd-below : x < suc (f + f) = omega arith in
+    claimed-first x item before
+    (along f n odd fits x below events t _ _ _ atSetUp (first x)
+    (invariant-set-up f x odd-below (firstNodes n x) (first-set-up n x)) before call after eq item R)

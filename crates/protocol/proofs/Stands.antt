@@ -17,7 +17,7 @@ use Rattle.message.specs.declared.Envelope.{Envelope}
 use Rattle.message.specs.declared.Outgoing.{Outgoing}
 use Rattle.record.specs.Layout.{recordSize, rowsOf}
 use Rattle.record.specs.Record.{readRecord, recordBytes, heldRows}
-use Rattle.record.specs.RoundTrip.{ItemFits, Fits, ReadsBack}
+use Rattle.record.specs.RoundTrip.{ItemFits, Fits, ReadsBack, reads-back}
 use Rattle.record.specs.declared.Reading.the-variants.{Found}
 use Rattle.returns.specs.Change.{Change, MaySend, Next, same, did-at}
 use Rattle.returns.specs.History.{Note, quiet}
@@ -104,7 +104,7 @@ module _ (f n x : ℕ) (table : List Node) (store : List ℕ) (g : View) (S : St
   unfolding refuse isRefused
   refuses note q why = stays note q (answer.Refused why) refl
 
-module _ (reads-back : ReadsBack) (f n x : ℕ) (fits : n ≤ maxNodes) (x-below : x < n)
+module _ (f n x : ℕ) (fits : n ≤ maxNodes) (x-below : x < n)
     (table : List Node) (store : List ℕ) (g : View) (S : Stands n x table store g) where
   -- the decision `step` of node k, accepted
   module _ (k back : ℕ) (step : Step) (k-below : k < n) (count : length table ≡ n)
