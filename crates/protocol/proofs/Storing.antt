@@ -1,14 +1,11 @@
 -- Delivery of Store and Stored. A Store from x is the relation's `atStore`, one of another writer leaves row x alone; a Stored
 -- is counted by x, and the f-th begins to confirm.
 use Prim.Native.Nat.{ℕ, _<_}
-use native.Mathlib.Omega.{arith}
 use mathlib.Core.Path.{_≡_, refl, sym, ap, _∙_, subst}
 use mathlib.Core.Logic.{_≢_}
-use mathlib.Core.Bool.{Bool, true, false, _&&_}
+use mathlib.Core.Bool.{true}
 use mathlib.Core.List.{List}
 use lib.ListN.{length}
-use Rattle.item.specs.Counter.{sameIncarnation, sameAttempt}
-use Rattle.item.specs.Item.{ranksBelow, sameItem}
 use Rattle.item.specs.Laws.{same-incarnation, same-attempt, same-item}
 use Rattle.item.specs.Tests.{and-left, and-right}
 use Rattle.item.specs.declared.Attempt.{Attempt}
@@ -16,10 +13,10 @@ use Rattle.item.specs.declared.Incarnation.{Incarnation}
 use Rattle.item.specs.declared.Item.{Item}
 use Rattle.item.specs.declared.Row.{Row}
 use Rattle.message.specs.declared.Message.the-variants as message
-use Rattle.returns.specs.Change.{Change, Present, CountsStored, SameWrite, atStore, atStored, atLastStored, unchanged}
+use Rattle.returns.specs.Change.{Change, Present, CountsStored, atStore, atStored, atLastStored, unchanged}
 use Rattle.returns.specs.History.{quiet}
 use Rattle.returns.specs.Rank.{Above}
-use Rattle.returns.specs.View.{up, View, ViewNode, storeTo, storedBy, Sent, Each}
+use Rattle.returns.specs.View.{View, ViewNode, storeTo, storedBy, Sent, Each}
 use Rattle.protocol.specs.Answer.{ok}
 use Rattle.protocol.specs.Node.{rowOf, ownItem, storedRow, withRow, withCounted, confirmingBegun}
 use Rattle.protocol.specs.Phase.{isUp, isStoring, atStage}
@@ -38,11 +35,16 @@ use Rattle.protocol.proofs.Sending.{Delivered, sent-at, each-if-at, tie
 -- Store
 module _ {f n x k : ℕ} {g : View} {node : Node} (v : InView f n x k g node) (s : ℕ) (i : Incarnation) (a : Attempt) (item : Item) where
   -- from x: row x takes the item
-  store-own : (live-node : isUp (node .phase) ≡ true) → Above (rowOf node x .item) item → k ≢ x → Sent (storeTo k (i .0) (a .0) item) g
+  store-own : isUp (node .phase) ≡ true → Above (rowOf node x .item) item → k ≢ x → Sent (storeTo k (i .0) (a .0) item) g
       → Change f x g quiet k (seen x (withRow node x (storedRow item i a)))
   unfolding withRow
   store-own e above d sent = atStore k (i .0) (a .0) item (seen x (withRow node x (storedRow item i a))) d sent (rw (v .view) above)
-      (record { same-incarnation = rw (v .view); was-live = rw (v .view) (up-live (node .phase) e); is-live = up-live (node .phase) e; stays-up = λ u. up-seen (node .phase) e })
+      (record {
+        same-incarnation = rw (v .view);
+        was-live = rw (v .view) (up-live (node .phase) e);
+        is-live = up-live (node .phase) e;
+        stays-up = λ u. up-seen (node .phase) e;
+      })
       (ap (λ (r : Row). r .item) (row-taken node x (storedRow item i a) (row-there v)))
 
   -- from another: the view stays
@@ -62,9 +64,13 @@ module _ {f n x k : ℕ} {g : View} {node : Node} (v : InView f n x k g node) (s
       (record { level = lower; tie = λ z. same-item item (rowOf node s .item) (alike z) }))
       (λ (z : k ≡ x). d (own ∙ sym z)) (sent-at (λ m. Sent m g) x s _ own sent)))
       store-other)
-      (each-if-at _ x s _ (λ (own : s ≡ x). (refl, up-seen (node .phase) e, refl,
-      sym (ap (λ (p : ℕ). rowOf (withRow node s (storedRow item i a)) p .item) (sym own)
-      ∙ ap (λ (r : Row). r .item) (row-taken node s (storedRow item i a) (subst (λ (p : ℕ). p < length (node .rows)) (sym own) (row-there v))))))))
+      (each-if-at _ x s _ (λ (own : s ≡ x). (
+        refl,
+        up-seen (node .phase) e,
+        refl,
+        sym (ap (λ (p : ℕ). rowOf (withRow node s (storedRow item i a)) p .item) (sym own)
+            ∙ ap (λ (r : Row). r .item) (row-taken node s (storedRow item i a) (subst (λ (p : ℕ). p < length (node .rows)) (sym own) (row-there v)))),
+      ))))
 
 -- an answer to the present write of x
 pub own-present : (x : ℕ) (v : ViewNode) (node : Node) (other : Incarnation) (a : Attempt) (item : Item) → v ≡ seen x node
