@@ -61,15 +61,21 @@ never-zero rs i [] j p = refl
 never-zero rs i (x ∷ l) j p = times-other x 0 l (p .1) ∙ never-zero rs (nextIn rs x) l j (p .2)
 
 -- where records come before x, the first of them or x is the start: not 0, and no r that is none of these
-starts : (rs : List (List ℕ)) (i : ℕ) (a : List ℕ) (x : ℕ) (b : List ℕ) (z : ℕ) → Leads rs i (a ++ (x ∷ b)) z → i ≢ 0
+pub starts : (rs : List (List ℕ)) (i : ℕ) (a : List ℕ) (x : ℕ) (b : List ℕ) (z : ℕ) → Leads rs i (a ++ (x ∷ b)) z → i ≢ 0
 unfolding Leads
 starts rs i [] x b z p e = p .1 (p .0 ∙ e)
 starts rs i (y ∷ a) x b z p e = p .1 (p .0 ∙ e)
 
-starts-not : (rs : List (List ℕ)) (i : ℕ) (a : List ℕ) (x : ℕ) (b : List ℕ) (z r : ℕ) → Leads rs i (a ++ (x ∷ b)) z → times r a ≡ 0 → r ≢ x → i ≢ r
+pub starts-not : (rs : List (List ℕ)) (i : ℕ) (a : List ℕ) (x : ℕ) (b : List ℕ) (z r : ℕ) → Leads rs i (a ++ (x ∷ b)) z → times r a ≡ 0 → r ≢ x → i ≢ r
 unfolding Leads
 starts-not rs i [] x b z r p none d e = d (sym (p .0 ∙ e))
 starts-not rs i (y ∷ a) x b z r p none d e = absurd (omega (arith, times-head y r a (p .0 ∙ e)))
+
+-- a chain of records below m starts below m
+pub starts-below : (rs : List (List ℕ)) (i : ℕ) (l : List ℕ) (m : ℕ) → 0 < m → ((x : ℕ) → 0 < times x l → x < m) → IsChain rs i l → i < m
+unfolding Leads
+starts-below rs i [] m h below p = omega arith
+starts-below rs i (x ∷ l) m h below p = omega (arith, below x (stands-head x l), p .0)
 
 -- ---- what the definitions find
 

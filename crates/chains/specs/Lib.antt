@@ -2,3 +2,9 @@ pub mod Times
 pub mod Leads
 pub mod Walk
 pub mod OnChains
+pub mod Message
+pub mod Links
+pub mod Inbox
+pub mod Relinked
+pub mod Put
+pub mod Drop

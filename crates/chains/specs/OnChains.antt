@@ -52,10 +52,10 @@ module _ {rs : List (List ℕ)} {free : List ℕ} {inbox : ℕ → List ℕ} (c 
       (λ e. subst (λ (k : ℕ). standing rs free inbox k ≤ 1) (sym e) (omega (arith, head-on-none)))
       (λ d. by-order (length rs) r (λ h. omega (arith, c .no-other r h)) (λ h. omega (arith, c .once r d h)))
 
-  free-short : length free ≤ length rs
+  pub free-short : length free ≤ length rs
   free-short = length-most (length rs) free (λ r h. omega (arith, c .no-other r h)) (λ r. omega (arith, at-most-once r))
 
-  inbox-short : (k : ℕ) → k < groupSize rs → length (inbox k) ≤ length rs
+  pub inbox-short : (k : ℕ) → k < groupSize rs → length (inbox k) ≤ length rs
   inbox-short k h =
       length-most (length rs) (inbox k)
       (λ r l. omega (arith, c .no-other r l, stands-on r (groupSize rs) inbox 0 k (omega arith) (omega arith)))

@@ -163,3 +163,51 @@ stands-where r (suc left) inbox k h =
     by-same (times r (inbox k)) 0
     (λ e. let w = stands-where r left inbox (suc k) (omega arith) in (w .0, omega (arith, w .1), w .2))
     (λ d. (k, omega arith, omega arith))
+
+-- on two of them
+pub stands-two : (r left : ℕ) (inbox : ℕ → List ℕ) (k i j : ℕ) → i ≢ j → k ≤ i → i < k + left → k ≤ j → j < k + left
+    → times r (inbox i) + times r (inbox j) ≤ timesOn r left inbox k
+unfolding timesOn
+stands-two r zero inbox k i j d a b c e = absurd (omega arith)
+stands-two r (suc left) inbox k i j d a b c e =
+    by-same k i
+    (λ z. omega (arith, ap (λ (m : ℕ). times r (inbox m)) z, stands-on r left inbox (suc k) j (omega arith) (omega arith)))
+    (λ y. by-same k j
+    (λ z. omega (arith, ap (λ (m : ℕ). times r (inbox m)) z, stands-on r left inbox (suc k) i (omega arith) (omega arith)))
+    (λ x. omega (arith, stands-two r left inbox (suc k) i j d (omega arith) (omega arith) (omega arith) (omega arith))))
+
+-- ---- another list for node k
+
+unfoldable pub changed : (ℕ → List ℕ) → ℕ → List ℕ → ℕ → List ℕ
+changed inbox k l j = cond (eqb j k) l (inbox j)
+
+pub changed-at : (inbox : ℕ → List ℕ) (k : ℕ) (l : List ℕ) → changed inbox k l k ≡ l
+unfolding changed
+changed-at inbox k l = rw (eq-eqb k k refl)
+
+pub changed-other : (inbox : ℕ → List ℕ) (k : ℕ) (l : List ℕ) (j : ℕ) → j ≢ k → changed inbox k l j ≡ inbox j
+unfolding changed
+changed-other inbox k l j d = rw (ne-eqb j k d)
+
+-- ---- a list without a record that stands in it
+
+pub record Split (r : ℕ) (l : List ℕ) : Type 0 where
+  pub before : List ℕ
+  pub after : List ℕ
+  pub whole : l ≡ before ++ (r ∷ after)
+  pub rest : without r l ≡ before ++ after
+
+pub split-at : (r : ℕ) (l : List ℕ) → 0 < times r l → Split r l
+unfolding times without
+split-at r [] h = absurd (not-suc-le-zero h)
+split-at r (x ∷ l) h =
+    by-same x r
+    (λ e. record { before = []; after = l; whole = ap (λ (i : ℕ). i ∷ l) e; rest = rw (eq-eqb x r e) })
+    (λ d.
+    let s : Split r l = split-at r l (omega (arith, bit-other x r d)) in
+    record {
+      before = x ∷ s .before;
+      after = s .after;
+      whole = ap (λ (t : List ℕ). x ∷ t) (s .whole);
+      rest = ap (λ (b : Bool). cond b l (x ∷ without r l)) (ne-eqb x r d) ∙ ap (λ (t : List ℕ). x ∷ t) (s .rest);
+    })

@@ -1,32 +1,34 @@
 -- What the laws of the store need of bytes and of one record: a number written at one place leaves every other place as it
 -- was, and what is read of a record does not depend on its next.
-use Prim.Native.Nat.{ℕ, zero, suc, _+_, _-_, _*_, _/_, _%_, _≤_}
+use Prim.Native.Nat.{ℕ, zero, suc, _+_, _-_, _*_, _/_, _%_, _^_, _≤_, _<_}
 use mathlib.Core.Path.{_≡_, refl, sym, ap, _∙_}
-use mathlib.Core.Bool.{cond}
+use mathlib.Core.Bool.{true, cond, _&&_}
 use mathlib.Core.Logic.{_⊎_, inr}
 use mathlib.Core.List.{List, [], _∷_}
 use native.Mathlib.Omega.{arith}
 use native.Mathlib.Nat.{suc-mul}
 use lib.Dec.{eqb}
-use lib.ListN.{length, take, drop, getD, length-append, length-drop, length-replicate, List·getD-eq-default}
+use borrow.Author.Tests.{eq-eqb}
+use lib.ListN.{length, take, drop, getD, length-append, length-drop, List·getD-eq-default}
 use lib.Seq.{drop-cons, drop-drop, getD-drop, ext-getD}
 use Rattle.item.specs.Maxima.{maxNodes}
-use Rattle.item.specs.Tests.{by-cond}
+use Rattle.item.specs.Tests.{by-cond, and-both}
 use Rattle.item.specs.declared.Item.{Item}
 use Rattle.endian.specs.Part.{part, whole}
 use Rattle.endian.specs.PartLaws.{by-order, part-is, part-none, part-with-other}
 use Rattle.endian.specs.Number.{value, bytes, numberAt, withNumber}
-use Rattle.endian.specs.NumberLaws.{length-bytes, length-with-number}
+use Rattle.endian.specs.NumberLaws.{length-bytes, length-with-number, number-of-with}
 use Rattle.endian.specs.Zero.{zeros, allZero}
+use Rattle.endian.specs.ZeroLaws.{length-zeros, zeros-are-zero}
 use Rattle.record.specs.declared.kind.Fields.{Fields}
 use Rattle.record.specs.declared.kind.Known.{Known}
 use Rattle.record.specs.declared.kind.Known.the-variants as known
 use Rattle.record.specs.declared.Reading.{Reading}
 use Rattle.record.specs.declared.Reading.the-variants.{Found, Fault}
-use Rattle.record.specs.Layout.{recordSize, nextAt, kindAt, addressAt, incarnationAt, otherAt, attemptAt, itemAt, rowsAt, rowSize, indexSize, itemBytes, fieldBytes, rowsBytes, padded, itemIn, itemsIn, fieldsIn, rowsOf}
+use Rattle.record.specs.Layout.{recordSize, nextAt, kindAt, addressAt, incarnationAt, otherAt, attemptAt, itemAt, rowsAt, rowSize, indexSize, itemBytes, fieldBytes, rowsBytes, padded, itemIn, itemsIn, fieldsIn, rowsOf, nextOf}
 use Rattle.record.specs.Kind.{fieldsOf, messageOf, rowsHeld}
 use Rattle.message.specs.declared.Envelope.{Envelope}
-use Rattle.record.specs.Record.{heldRows, recordBytes, readAs, readRecord, envelopeOf, zeroAfterRows, withNext, noRecord}
+use Rattle.record.specs.Record.{heldRows, recordBytes, readAs, readRecord, envelopeOf, zeroAfterRows, zeroAfterNext, withNext, noRecord}
 
 -- ---- a number written
 
@@ -186,6 +188,38 @@ length-record-bytes n next e rows =
     simp (length-append, length-bytes, length-rows)
     (omega (arith, length-fields (fieldsOf e), length-padded maxNodes (take (rowsHeld (e .message) n) rows)))
 
+length-no-record : length noRecord ≡ recordSize
+unfolding noRecord
+length-no-record = length-zeros recordSize
+
 pub length-cleared : (next : ℕ) → length (withNext noRecord next) ≡ recordSize
-unfolding withNext noRecord zeros
-length-cleared next = length-with-number 2 noRecord nextAt next ∙ length-replicate {A = ℕ} recordSize 0
+unfolding withNext
+length-cleared next = length-with-number 2 noRecord nextAt next ∙ length-no-record
+
+-- ---- a free record
+
+pub alike-zero : {r q : List ℕ} → Alike r q → zeroAfterNext r ≡ zeroAfterNext q
+unfolding zeroAfterNext
+alike-zero a = λ i. eqb (a .size i) recordSize && allZero (a .rest i)
+
+drop-zeros : (k m : ℕ) → allZero (drop k (zeros m)) ≡ true
+unfolding zeros allZero
+drop-zeros zero m = zeros-are-zero m
+drop-zeros (suc k) zero = refl
+drop-zeros (suc k) (suc m) = drop-zeros k m
+
+no-record-zero : zeroAfterNext noRecord ≡ true
+unfolding zeroAfterNext noRecord
+no-record-zero = and-both (eq-eqb (length noRecord) recordSize length-no-record) (drop-zeros kindAt recordSize)
+
+pub cleared-zero : (next : ℕ) → zeroAfterNext (withNext noRecord next) ≡ true
+cleared-zero next = alike-zero (alike-next noRecord next) ∙ no-record-zero
+
+pub next-cleared : (next : ℕ) → next < 256 ^ 2 → nextOf (withNext noRecord next) ≡ next
+unfolding nextOf withNext
+next-cleared next h = number-of-with 2 noRecord nextAt next (omega (arith, length-no-record)) h
+
+-- a record that is written has the next 0
+pub next-written : (n : ℕ) (e : Envelope) (rows : List Item) → nextOf (recordBytes n 0 e rows) ≡ 0
+unfolding nextOf numberAt part whole value recordBytes bytes
+next-written n e rows = refl

@@ -109,6 +109,10 @@ local-as {New} {New′} {rs} {rs′} f a =
       each = λ i d. ⊎-elim (λ (k : Alike (recordIn rs′ i) (recordIn rs i)). inl k) (λ (m : New (recordIn rs′ i)). inr (f _ m)) (a .each i d);
     }
 
+-- a change without new records
+pub local-alike : {rs rs′ : List (List ℕ)} → Local (λ _. ⊥) rs rs′ → (i : ℕ) → i ≢ 0 → Alike (recordIn rs′ i) (recordIn rs i)
+local-alike {rs} {rs′} a i d = ⊎-elim (λ (k : Alike (recordIn rs′ i) (recordIn rs i)). k) (λ (z : ⊥). absurd z) (a .each i d)
+
 -- ---- the chains alone change
 
 module _ {New : List ℕ → Type 0} (rs : List (List ℕ)) where
@@ -156,26 +160,23 @@ module _ {New : List ℕ → Type 0} (rs : List (List ℕ)) where
 abbrev pub Holds : ℕ → Envelope → List Item → List ℕ → Type 0
 Holds n e rows r = Alike r (recordBytes n 0 e rows)
 
+-- after the first free record, which is not 0, is taken
+pub taken-local : (rs : List (List ℕ)) (e : Envelope) (rows : List Item) → firstFree rs ≢ 0 → Local (Holds (groupSize rs) e rows) rs (taken rs e rows)
+unfolding taken
+taken-local rs e rows d =
+    local-then (λ r q k l. alike-trans k l) (free-local rs (nextIn rs (firstFree rs)))
+    (set-local (withFirstFree rs (nextIn rs (firstFree rs))) (firstFree rs) (recordBytes (groupSize rs) 0 e rows)
+    (λ _. length-record-bytes (groupSize rs) 0 e rows)
+    (λ z. absurd (d z))
+    (λ _. inr (alike-self (recordBytes (groupSize rs) 0 e rows))))
+
 -- after `put` each record from 1 is as before apart from next, or holds the message
 pub put-local : (rs : List (List ℕ)) (e : Envelope) (rows : List Item) → Local (Holds (groupSize rs) e rows) rs (putIn rs e rows)
-unfolding putIn taken
+unfolding putIn
 put-local rs e rows =
-    by-cond (Local New rs) (eqb (firstFree rs) 0) _ _
+    by-cond (Local (Holds (groupSize rs) e rows) rs) (eqb (firstFree rs) 0) _ _
     (λ _. local-none rs)
-    (λ z. then (then (free-local rs (nextIn rs (firstFree rs))) (write z)) (appended-local (taken rs e rows) (e .addressee) (firstFree rs)))
-  where
-    New : List ℕ → Type 0
-    New = Holds (groupSize rs) e rows
-
-    then : {a b c : List (List ℕ)} → Local New a b → Local New b c → Local New a c
-    then = local-then (λ r q k l. alike-trans k l)
-
-    write : eqb (firstFree rs) 0 ≡ false → Local New (withFirstFree rs (nextIn rs (firstFree rs))) (taken rs e rows)
-    write z =
-        set-local (withFirstFree rs (nextIn rs (firstFree rs))) (firstFree rs) (recordBytes (groupSize rs) 0 e rows)
-        (λ _. length-record-bytes (groupSize rs) 0 e rows)
-        (λ d. absurd (eqb-false (firstFree rs) 0 z d))
-        (λ _. inr (alike-self (recordBytes (groupSize rs) 0 e rows)))
+    (λ z. local-then (λ r q k l. alike-trans k l) (taken-local rs e rows (eqb-false (firstFree rs) 0 z)) (appended-local (taken rs e rows) (e .addressee) (firstFree rs)))
 
 -- a record that holds one of these messages
 pub record HoldsOne (n : ℕ) (os : List Outgoing) (rows : List Item) (r : List ℕ) : Type 0 where
