@@ -1,6 +1,6 @@
 -- Write, Retry, Crash and Start of node k are changes that the relation allows. At x they are the events of the same name;
 -- a write elsewhere leaves row x alone.
-use Prim.Native.Nat.{ℕ, suc, _<_}
+use Prim.Native.Nat.{ℕ, suc}
 use native.Mathlib.Omega.{arith}
 use mathlib.Core.Path.{_≡_, refl, sym, ap, _∙_}
 use mathlib.Core.Logic.{_≢_}
@@ -8,24 +8,22 @@ use mathlib.Core.Bool.{Bool, true, false, cond, _||_, false≢true}
 use lib.Dec.{eqb}
 use borrow.Author.Tests.{eqb-true, eqb-false}
 use Rattle.item.specs.Counter.{incarnationAtLargest, attemptAtLargest, indexAtLargest, nextIndex}
-use Rattle.item.specs.Item.{zeroItem}
 use Rattle.item.specs.Laws.{next-index, next-incarnation, next-attempt}
-use Rattle.item.specs.Maxima.{maxNodes}
-use Rattle.item.specs.Row.{zeroRow}
 use Rattle.item.specs.Tests.{by-cond}
 use Rattle.item.specs.declared.Item.{Item}
 use Rattle.item.specs.declared.Row.{Row}
 use Rattle.item.specs.declared.Tag.{Tag}
 use Rattle.returns.specs.Change.{Change, atWrite, atRetry, atCrash, atStart, unchanged}
-use Rattle.returns.specs.History.{quiet, begins}
+use Rattle.returns.specs.History.{Note, quiet, begins}
 use Rattle.returns.specs.Rank.{oneAbove}
-use Rattle.returns.specs.View.{up, View, live}
-use Rattle.protocol.specs.Node.{rowOf, ownItem, crashed, started, storingBegun, blankNode, zeroRows}
+use Rattle.returns.specs.View.{View, live}
+use Rattle.protocol.specs.Answer.{ok}
+use Rattle.protocol.specs.Node.{ownItem, crashed, started, storingBegun, blankNode}
 use Rattle.protocol.specs.Operation.{isRefused}
-use Rattle.protocol.specs.Phase.{isDown, isFetching, isUpIdle, isIdle, atStage}
-use Rattle.protocol.specs.Write.{nextItem, writeAtLargest, written, writeStep, retried, nothingToRetry, retryStep, crashStep, startStep}
+use Rattle.protocol.specs.Phase.{isDown, isFetching, isUpIdle, isIdle}
+use Rattle.protocol.specs.Write.{sendStore, nextItem, writeAtLargest, written, writeStep, retried, nothingToRetry, retryStep, crashStep, startStep}
+use Rattle.protocol.specs.declared.Answer.the-variants as answer
 use Rattle.protocol.specs.declared.Node.{Node}
-use Rattle.protocol.specs.declared.Phase.the-variants.{Up}
 use Rattle.protocol.specs.declared.Stage.the-variants.{Storing}
 use Rattle.protocol.proofs.Cases.{IfTaken, refusal-not-taken, write-cases, retry-cases, crash-cases, start-cases}
 use Rattle.protocol.proofs.Counts.{none-present}
@@ -70,10 +68,19 @@ module _ (node : Node) (tag : Tag) (e : isUpIdle (node .phase) ≡ true) where
 pub write-tied : {f n x k : ℕ} {g : View} {node : Node} (tag : Tag) → InView f n x k g node
     → isRefused (writeStep node tag .answer) ≡ false → Tied f x g (cond (eqb k x) (begins tag) quiet) k k (writeStep node tag)
 unfolding written storingBegun
-write-tied {f} {n} {x} {k} {g} {node} tag v = write-cases (IfTaken (Tied f x g (cond (eqb k x) (begins tag) quiet) k k)) node (refusal-not-taken (Tied f x g (cond (eqb k x) (begins tag) quiet) k k) node) tag
-    (λ e l h. tied-store f x g k k (written node tag) (numbered v) (cond (eqb k x) (begins tag) quiet)
-    (by-cond (λ note. Change f x g note k (seen x (written node tag))) (eqb k x) (begins tag) quiet
+write-tied {f} {n} {x} {k} {g} {node} tag v = write-cases (IfTaken (Tied f x g note k k)) node (refusal-not-taken (Tied f x g note k k) node) tag
+    (λ e l h. tied-store f x g k k (written node tag) (numbered v) note
+    (by-cond (λ told. Change f x g told k (seen x (written node tag))) (eqb k x) (begins tag) quiet
     (λ t. at-x v (eqb-true k x t) (write-own node tag e l)) (λ t. write-other node tag e v (eqb-false k x t))))
+  where
+    note : Note
+    note = cond (eqb k x) (begins tag) quiet
+
+-- a Write that is not refused answers "ok"
+pub write-answers-ok : (node : Node) (tag : Tag) → isRefused (writeStep node tag .answer) ≡ false → writeStep node tag .answer ≡ answer.Ok
+unfolding sendStore ok
+write-answers-ok node tag = write-cases (IfTaken (λ step. step .answer ≡ answer.Ok)) node
+    (refusal-not-taken (λ step. step .answer ≡ answer.Ok) node) tag (λ e l h. refl)
 
 -- Retry
 module _ (node : Node) (some : nothingToRetry node ≡ false) (e : isFetching (node .phase) ≡ false) where

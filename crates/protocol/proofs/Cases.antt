@@ -1,8 +1,8 @@
 -- The cases of each decision: what holds of every refusal, and of what the definition gives where its tests pass, holds of
 -- the decision. By the named tests alone; no other proof opens a decision.
-use Prim.Native.Nat.{ℕ, suc, _≤_, _<_}
-use mathlib.Core.Path.{_≡_, refl, sym, _∙_}
-use mathlib.Core.Bool.{Bool, true, false, cond, _&&_, _||_, false≢true}
+use Prim.Native.Nat.{ℕ, suc}
+use mathlib.Core.Path.{_≡_, sym, _∙_}
+use mathlib.Core.Bool.{true, false, _&&_, false≢true}
 use mathlib.Core.List.{List}
 use lib.Dec.{ltb}
 use Rattle.item.specs.Counter.{sameIncarnation, earlier, incarnationAtLargest, attemptAtLargest}
@@ -11,14 +11,13 @@ use Rattle.item.specs.Tests.{by-cond}
 use Rattle.item.specs.declared.Attempt.{Attempt}
 use Rattle.item.specs.declared.Incarnation.{Incarnation}
 use Rattle.item.specs.declared.Item.{Item}
-use Rattle.item.specs.declared.Row.{Row}
 use Rattle.item.specs.declared.Tag.{Tag}
 use Rattle.message.specs.declared.Message.the-variants as message
 use Rattle.protocol.specs.Answer.{ok, refused}
 use Rattle.protocol.specs.Fetching.{onFetch, withTable, hasConflict, stopped, writtenBack, nodeRecover, tableCounted, onTable}
 use Rattle.protocol.specs.Node.{half, rowOf, storedRow, countPeers, crashed, started, withRow, withCounted, confirmingBegun}
 use Rattle.protocol.specs.Operation.{isRefused}
-use Rattle.protocol.specs.Phase.{isDown, isFetching, isUp, isUpIdle, isIdle, isStoring, isConfirming, atStage}
+use Rattle.protocol.specs.Phase.{isDown, isFetching, isUp, isUpIdle, isStoring, isConfirming, atStage}
 use Rattle.protocol.specs.Storing.{
   storeVerdict,
   replyStore,

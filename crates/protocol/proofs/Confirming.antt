@@ -4,9 +4,8 @@ use Prim.Native.Nat.{ℕ, _≤_, _<_}
 use native.Mathlib.Omega.{arith}
 use mathlib.Core.Path.{_≡_, refl, sym, ap, _∙_, subst}
 use mathlib.Core.Logic.{_≢_}
-use mathlib.Core.Bool.{Bool, true, false, cond, _&&_}
+use mathlib.Core.Bool.{true, _&&_}
 use mathlib.Core.List.{List}
-use lib.Dec.{eqb, ltb}
 use borrow.Author.Tests.{ltb-false, eq-eqb, ne-eqb}
 use Rattle.item.specs.Laws.{same-incarnation}
 use Rattle.item.specs.Tests.{by-cond, and-left, and-right}
@@ -14,10 +13,8 @@ use Rattle.item.specs.declared.Attempt.{Attempt}
 use Rattle.item.specs.declared.Incarnation.{Incarnation}
 use Rattle.item.specs.declared.Item.{Item}
 use Rattle.message.specs.declared.Message.the-variants as message
-use Rattle.returns.specs.Change.{Change, CountsConfirmed, SameWrite, Finishes, atConfirmed, atLastConfirmed, unchanged}
+use Rattle.returns.specs.Change.{Change, CountsConfirmed, Finishes, atConfirmed, atLastConfirmed, unchanged}
 use Rattle.returns.specs.History.{Note, quiet}
-use Rattle.returns.specs.Majority.{count, groupSize}
-use Rattle.returns.specs.Replace.{replaced}
 use Rattle.returns.specs.View.{View, ViewNode, confirmedBy, Sent, Each, clash}
 use Rattle.protocol.specs.Answer.{ok}
 use Rattle.protocol.specs.Node.{half, rowOf, ownItem, peerOf, countPeers, withCounted, writeEnded}
@@ -28,8 +25,8 @@ use Rattle.protocol.specs.declared.Answer.the-variants as answer
 use Rattle.protocol.specs.declared.Node.{Node}
 use Rattle.protocol.specs.declared.Phase.{Phase}
 use Rattle.protocol.proofs.Cases.{IfTaken, refusal-not-taken, confirm-cases, confirmed-cases}
-use Rattle.protocol.proofs.Counts.{present, present-set, count-group}
-use Rattle.protocol.proofs.InView.{InView, counted-sound, size-is, half-is}
+use Rattle.protocol.proofs.Counts.{present, present-set}
+use Rattle.protocol.proofs.InView.{InView, size-is, half-is}
 use Rattle.protocol.proofs.Phases.{confirming-seen, confirming-live, returning-is, returning-not}
 use Rattle.protocol.proofs.Place.{by-place, peer-there, numbered, at-x, at-other, own-row, counted-of-group}
 use Rattle.protocol.proofs.Seen.{seen, seenPhase, seenAs, noteOf}
@@ -80,7 +77,7 @@ module _ {f n x : ℕ} {g : View} {node : Node} (s : ℕ) (i : Incarnation) (e :
     present = own-present x (g .node x) node other a item (v .view) (numbered v) (and-left _ (askedUnder node s i) own);
     was-asked = rw (v .view) (search (and-left, and-right));
     asked-under = rw (v .view) (sym (ap (λ (j : Incarnation). j .0)
-      (same-incarnation (peerOf (node .asked) s .incarnation) i (search (and-left, and-right)))));
+        (same-incarnation (peerOf (node .asked) s .incarnation) i (search (and-left, and-right)))));
   }
 
   confirmed-own : s < n → CountsConfirmed x g s → Change f x g quiet x (seen x (withCounted node s i))
@@ -120,10 +117,10 @@ module _ {f n x k : ℕ} {g : View} {node : Node} (v : InView f n x k g node) (s
       (by-place k x (λ t. at-x v t (λ w. confirmed-own s i e w l (counted t e own w))) (confirmed-other e)))
       (λ e own enough h. record {
         changes = by-place k x
-          (λ t. subst (λ (p : ℕ). InView f n x p g node → Change f x g (noteOf x p end) p (seen x (writeEnded (withCounted node s i)))) (sym t)
-          (λ w. last-confirmed-own s i e w l (counted t e own w) (ltb-false _ _ enough)) v)
-          (λ d. subst (λ (note : Note). Change f x g note k (seen x (writeEnded (withCounted node s i)))) (sym (end-quiet x k (node .phase) _ d))
-          (last-confirmed-other e d));
+            (λ t. subst (λ (p : ℕ). InView f n x p g node → Change f x g (noteOf x p end) p (seen x (writeEnded (withCounted node s i)))) (sym t)
+            (λ w. last-confirmed-own s i e w l (counted t e own w) (ltb-false _ _ enough)) v)
+            (λ d. subst (λ (note : Note). Change f x g note k (seen x (writeEnded (withCounted node s i)))) (sym (end-quiet x k (node .phase) _ d))
+            (last-confirmed-other e d));
         sending = sends-nothing f x g k s (writeEnded (withCounted node s i)) (numbered v);
       })
     where

@@ -3,18 +3,15 @@
 use Prim.Native.Nat.{ℕ, zero, suc, _+_, _≤_, _<_}
 use native.Mathlib.Omega.{arith}
 use native.Mathlib.Decide.{decLt}
-use mathlib.Core.Path.{_≡_, refl, sym, ap, _∙_, subst}
-use mathlib.Core.Logic.{_≢_}
-use mathlib.Core.Bool.{Bool, true, false, cond, not, _&&_, false≢true}
+use mathlib.Core.Path.{_≡_, refl, ap, _∙_}
+use mathlib.Core.Bool.{Bool, true, false}
 use mathlib.Core.List.{List, [], _∷_}
-use lib.Dec.{eqb, ltb}
 use lib.ListN.{length, getD, set, replicate, length-set, List·getD-eq-default}
-use borrow.Author.Tests.{ltb-true, eqb-true, not-true, eqb-false}
-use Rattle.item.specs.Counter.{sameIncarnation}
+use borrow.Author.Tests.{ltb-true}
 use Rattle.item.specs.Maxima.{maxNodes}
 use Rattle.item.specs.Tests.{by-cond, and-left, and-right}
 use Rattle.item.specs.declared.Incarnation.{Incarnation}
-use Rattle.returns.specs.Majority.{bit, count, groupSize, count-first, count-beyond}
+use Rattle.returns.specs.Majority.{bit, count, count-first, count-beyond}
 use Rattle.returns.specs.Replace.{replaced, replaced-other, seen-set}
 use Rattle.protocol.specs.Node.{noPeer, noPeers, peerOf, countPeers}
 use Rattle.protocol.specs.Sound.{everyFrom, peerSound, peersSound}

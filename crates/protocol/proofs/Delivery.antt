@@ -38,5 +38,6 @@ pub deliver-tied : {f n x k : ℕ} {g : View} {node : Node} (e : Envelope) (item
     → isRefused (deliverStep node e items .answer) ≡ false
     → Tied f x g (noteOf x k (deliverStep node e items .answer)) k (e .sender) (deliverStep node e items)
 unfolding deliverStep
-deliver-tied {x = x} {g = g} e items v a = message-tied (e .message) v (e .sender) (e .incarnation) items (a .sender-below) (a .from-other) (a .items-length)
+deliver-tied {x = x} {g = g} e items v a =
+    message-tied (e .message) v (e .sender) (e .incarnation) items (a .sender-below) (a .from-other) (a .items-length)
     (subst (λ (d : ℕ). Each (λ m. Sent m g) (seenAs x (e .message) (e .sender) d (e .incarnation) items)) (a .to-k) (a .was-sent))

@@ -2,11 +2,9 @@
 -- relation asks, and the (f + 1)-th ends in "stopped" or in the write-back of the own item.
 use Prim.Native.Nat.{ℕ, suc, _≤_, _<_}
 use native.Mathlib.Omega.{arith}
-use mathlib.Core.Path.{_≡_, refl, sym, ap, _∙_, subst, subst₂}
-use mathlib.Core.Logic.{_≢_}
-use mathlib.Core.Bool.{Bool, true, false, cond}
-use mathlib.Core.List.{List, [], _∷_, List·Memᴰ·head}
-use lib.Dec.{eqb, ltb}
+use mathlib.Core.Path.{_≡_, refl, sym, ap, subst₂}
+use mathlib.Core.Bool.{Bool, true, false}
+use mathlib.Core.List.{List, [], List·Memᴰ·head}
 use lib.ListN.{length, getD, List·getD-map}
 use borrow.Author.Tests.{eqb-true, ltb-false}
 use Rattle.item.specs.Counter.{sameIncarnation}
@@ -26,8 +24,8 @@ use Rattle.returns.specs.Replace.{replaced}
 use Rattle.returns.specs.View.{View, ViewNode, tableFrom, Sent, Each, each-nil, each-cons}
 use Rattle.protocol.specs.Answer.{ok}
 use Rattle.protocol.specs.Fetching.{onFetch, noneCounted, withTable, hasConflict, stopped, writtenBack, onTable}
-use Rattle.protocol.specs.Merge.{mergeRow, mergeRows, lowestMarked}
-use Rattle.protocol.specs.Node.{half, rowOf, ownItem, countPeers, crashed, blankNode, storingBegun, withCounted, withRows}
+use Rattle.protocol.specs.Merge.{mergeRow, lowestMarked}
+use Rattle.protocol.specs.Node.{half, rowOf, countPeers, crashed, blankNode, storingBegun, withCounted, withRows}
 use Rattle.protocol.specs.Operation.{rowItems}
 use Rattle.protocol.specs.Phase.{isFetching}
 use Rattle.protocol.specs.Write.{sendStore}
@@ -37,7 +35,7 @@ use Rattle.protocol.specs.declared.Stage.the-variants.{Storing}
 use Rattle.protocol.proofs.Calls.{crash-seen}
 use Rattle.protocol.proofs.Cases.{IfTaken, refusal-not-taken, fetch-cases, table-cases}
 use Rattle.protocol.proofs.Counts.{none-present, nobody-present, present-set}
-use Rattle.protocol.proofs.InView.{Shaped, InView, size-is, half-is}
+use Rattle.protocol.proofs.InView.{InView, size-is, half-is}
 use Rattle.protocol.proofs.Phases.{fetching-is, up-live}
 use Rattle.protocol.proofs.Place.{row-there, peer-there, counted-of-group, numbered}
 use Rattle.protocol.proofs.Rows.{begun-again, merged-row, merge-merged, none-marked}

@@ -95,7 +95,8 @@ getD-same n i a =
     (λ h. List·getD-eq-default (replicate n a) a (omega (arith, length-replicate n a)))
 
 -- every place after one was set
-pub set-any : {A : Type 0} (P : A → Type 0) (l : List A) (j : ℕ) (a d : A) → P a → ((i : ℕ) → P (getD l i d)) → (i : ℕ) → P (getD (set l j a) i d)
+pub set-any : {A : Type 0} (P : A → Type 0) (l : List A) (j : ℕ) (a d : A) → P a → ((i : ℕ) → P (getD l i d))
+    → (i : ℕ) → P (getD (set l j a) i d)
 set-any P l j a d new old i = go (eqb i j) refl
   where
     go : (t : Bool) → eqb i j ≡ t → P (getD (set l j a) i d)
@@ -139,7 +140,13 @@ module _ (node : Node) (N : NodeFits node) where
   pub ended-fits : NodeFits (writeEnded node)
   unfolding writeEnded rowOf
   ended-fits =
-      record { incarnation-fits = N .incarnation-fits; attempt-fits = N .attempt-fits; items-fit = N .items-fit; counted-fit = none-fits; asked-fit = none-fits }
+      record {
+        incarnation-fits = N .incarnation-fits;
+        attempt-fits = N .attempt-fits;
+        items-fit = N .items-fit;
+        counted-fit = none-fits;
+        asked-fit = none-fits;
+      }
 
   pub own-fits : ItemFits (ownItem node)
   unfolding ownItem
@@ -151,13 +158,15 @@ module _ (node : Node) (N : NodeFits node) where
       record {
         incarnation-fits = N .incarnation-fits;
         attempt-fits = h;
-        items-fit = set-any (λ (r : Row). ItemFits (r .item)) (node .rows) (node .number) (storedRow item (node .incarnation) a) zeroRow k (N .items-fit);
+        items-fit = set-any (λ (r : Row). ItemFits (r .item)) (node .rows) (node .number)
+            (storedRow item (node .incarnation) a) zeroRow k (N .items-fit);
         counted-fit = none-fits;
         asked-fit = none-fits;
       }
 
   -- the write that has begun is sent
-  pub store-sent : (phase : Phase) (a : Attempt) (item : Item) → CounterFits (a .0) → ItemFits item → StepFits node (sendStore (storingBegun node phase a item))
+  pub store-sent : (phase : Phase) (a : Attempt) (item : Item) → CounterFits (a .0) → ItemFits item
+      → StepFits node (sendStore (storingBegun node phase a item))
   unfolding sendStore ok messageTo ownItem otherOf attemptOf itemOf storingBegun
   store-sent phase a item h k =
       let S : NodeFits (storingBegun node phase a item) = storing-fits phase a item h k in

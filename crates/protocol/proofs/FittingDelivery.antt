@@ -48,7 +48,8 @@ module _ (node : Node) (N : NodeFits node) (sender : ℕ) (i : Incarnation) (I :
         incarnation-fits = N .incarnation-fits;
         attempt-fits = N .attempt-fits;
         items-fit = N .items-fit;
-        counted-fit = set-any (λ (p : Peer). CounterFits (p .incarnation .0)) (node .counted) sender (record { present = true; incarnation = i }) noPeer I (N .counted-fit);
+        counted-fit = set-any (λ (p : Peer). CounterFits (p .incarnation .0)) (node .counted) sender
+            (record { present = true; incarnation = i }) noPeer I (N .counted-fit);
         asked-fit = N .asked-fit;
       }
 

@@ -4,9 +4,8 @@ use Prim.Native.Nat.{ℕ, suc, _+_, _%_, _≤_, _<_}
 use native.Mathlib.Omega.{arith}
 use mathlib.Core.Path.{_≡_}
 use mathlib.Core.Logic.{_≢_}
-use mathlib.Core.Bool.{Bool, true, _&&_}
+use mathlib.Core.Bool.{true}
 use mathlib.Core.List.{List}
-use lib.Dec.{eqb, leb}
 use lib.ListN.{length}
 use borrow.Author.Tests.{eqb-true, leb-true}
 use Rattle.item.specs.Maxima.{maxNodes, validSize}
@@ -15,8 +14,8 @@ use Rattle.item.specs.declared.Item.{Item}
 use Rattle.message.specs.declared.Envelope.{Envelope}
 use Rattle.returns.specs.Majority.{groupSize}
 use Rattle.returns.specs.View.{View, Sent, Each}
-use Rattle.protocol.specs.Node.{half, countPeers}
-use Rattle.protocol.specs.Sound.{soundNode, attemptFits, rowsSound, peersSound, phaseCounts, countedAsked}
+use Rattle.protocol.specs.Node.{half}
+use Rattle.protocol.specs.Sound.{soundNode, peersSound}
 use Rattle.protocol.specs.declared.Node.{Node}
 use Rattle.protocol.proofs.Seen.{seen, seenMessage}
 

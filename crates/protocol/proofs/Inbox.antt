@@ -57,7 +57,8 @@ record-below rs n r e m =
 addressed-of : (n owner : ℕ) (m : Reading) (e : Envelope) → m ≡ Found e → owner < n → addressedTo n owner m ≡ true → Addressed n e
 unfolding addressedTo
 addressed-of n owner m e h l a =
-    let b : (ltb (e .sender) n && (not (eqb (e .sender) (e .addressee)) && eqb (e .addressee) owner)) ≡ true = subst (λ (z : Reading). addressedTo n owner z ≡ true) h a in
+    let b : (ltb (e .sender) n && (not (eqb (e .sender) (e .addressee)) && eqb (e .addressee) owner)) ≡ true
+    = subst (λ (z : Reading). addressedTo n owner z ≡ true) h a in
     let c = and-right (ltb (e .sender) n) (not (eqb (e .sender) (e .addressee)) && eqb (e .addressee) owner) b in
     let o : e .addressee ≡ owner = eqb-true (e .addressee) owner (and-right (not (eqb (e .sender) (e .addressee))) _ c) in
     record {
@@ -67,11 +68,13 @@ addressed-of n owner m e h l a =
     }
 
 -- the message in a record: the record is not the head, and reads so
-pub message-read : (rs : List (List ℕ)) (r : ℕ) (e : Envelope) → messageIn rs r ≡ Found e → (r ≢ 0) × (readRecord (groupSize rs) (recordIn rs r) ≡ Found e)
+pub message-read : (rs : List (List ℕ)) (r : ℕ) (e : Envelope) → messageIn rs r ≡ Found e
+    → (r ≢ 0) × (readRecord (groupSize rs) (recordIn rs r) ≡ Found e)
 unfolding messageIn
 message-read rs r e = go (eqb r 0) refl
   where
-    go : (t : Bool) → eqb r 0 ≡ t → cond t Fault (readRecord (groupSize rs) (recordIn rs r)) ≡ Found e → (r ≢ 0) × (readRecord (groupSize rs) (recordIn rs r) ≡ Found e)
+    go : (t : Bool) → eqb r 0 ≡ t → cond t Fault (readRecord (groupSize rs) (recordIn rs r)) ≡ Found e
+        → (r ≢ 0) × (readRecord (groupSize rs) (recordIn rs r) ≡ Found e)
     go true z m = clash (cc)
     go false z m = (eqb-false r 0 z, m)
 

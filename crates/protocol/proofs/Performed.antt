@@ -15,7 +15,6 @@ use Rattle.item.specs.declared.Item.{Item}
 use Rattle.item.specs.declared.Tag.{Tag}
 use Rattle.record.specs.Layout.{itemsIn, rowsOf}
 use Rattle.record.specs.Record.{readRecord}
-use Rattle.record.specs.RoundTrip.{ReadsBack}
 use Rattle.record.specs.declared.Reading.{Reading}
 use Rattle.record.specs.declared.Reading.the-variants.{Found, Fault}
 use Rattle.returns.specs.Change.{same}
@@ -49,12 +48,13 @@ use Rattle.protocol.proofs.Inbox.{Addressed, in-inbox, message-read, no
 use Rattle.protocol.proofs.InView.{Shaped, InView, Arrived, number-is, size-is}
 use Rattle.protocol.proofs.Seen.{noteOf, Tied}
 use Rattle.protocol.proofs.Shapes.{write-shaped, retry-shaped, crash-shaped, start-shaped, deliver-shaped}
-use Rattle.protocol.proofs.Stands.{Carries, Mail, StoreOf, Stands, Goes, Quiet, store-after, refuses, carried}
+use Rattle.protocol.proofs.Stands.{Carries, Mail, StoreOf, Stands, Goes, Tells, Quiet, store-after, refuses, carried}
 use Rattle.protocol.proofs.Told.{told, told-quiet}
 
 -- ---- tests of a table and of a record
 
-every-at : {A : Type 0} (test : ℕ → A → Bool) (k : ℕ) (l : List A) (d : A) (j : ℕ) → everyFrom test k l ≡ true → j < length l → test (k + j) (getD l j d) ≡ true
+every-at : {A : Type 0} (test : ℕ → A → Bool) (k : ℕ) (l : List A) (d : A) (j : ℕ) → everyFrom test k l ≡ true → j < length l
+    → test (k + j) (getD l j d) ≡ true
 unfolding everyFrom
 every-at test k [] d j e h = absurd (omega arith)
 every-at test k (a ∷ l) d zero e h =
@@ -94,7 +94,7 @@ write-ok node tag =
     (λ _ e. absurd (false≢true (sym e))) (λ _ e. refl))
     (λ _ e. absurd (false≢true (sym e)))
 
-module _ (reads-back : ReadsBack) (f n x : ℕ) (odd : n ≡ suc (f + f)) (fits : n ≤ maxNodes) (x-below : x < n)
+module _ (f n x : ℕ) (odd : n ≡ suc (f + f)) (fits : n ≤ maxNodes) (x-below : x < n)
     (table : List Node) (store : List ℕ) (g : View) (S : Stands n x table store g) where
   -- on a sound table and store
   module _ (sound : soundRecords (recordsOf store) ≡ true) (sound-table : soundTable n table ≡ true) where
@@ -112,11 +112,12 @@ module _ (reads-back : ReadsBack) (f n x : ℕ) (odd : n ≡ suc (f + f)) (fits 
 
     -- the decision of node k
     decided : (note : Answer → Note) → Quiet note → (k back : ℕ) (step : Step) → k < n
-        → Shaped (step .node) → StepFits (nodeAt table k) step → (isRefused (step .answer) ≡ false → Tied f x g (note (step .answer)) k back step)
-        → Goes f n x g (note (carriedOut table store (recordsOf store) k back step .answer)) (carriedOut table store (recordsOf store) k back step)
+        → Shaped (step .node) → StepFits (nodeAt table k) step
+        → (isRefused (step .answer) ≡ false → Tied f x g (note (step .answer)) k back step)
+        → Tells f n x g note (carriedOut table store (recordsOf store) k back step)
     decided note q k back step h =
         let s : soundNode n k (nodeAt table k) ≡ true = node-sound n table k sound-table h in
-        carried reads-back f n x fits x-below table store g S note q k back step h (table-count n table sound-table)
+        carried f n x fits x-below table store g S note q k back step h (table-count n table sound-table)
         (number-is n k (nodeAt table k) s) (size-is n k (nodeAt table k) s)
 
     -- an event at a node that the call names
@@ -124,13 +125,14 @@ module _ (reads-back : ReadsBack) (f n x : ℕ) (odd : n ≡ suc (f + f)) (fits 
         → ((node : Node) → NodeFits node → StepFits node (decide node)) → ((node : Node) → Shaped node → Shaped (decide node .node))
         → (InView f n x k g (nodeAt table k) → isRefused (decide (nodeAt table k) .answer) ≡ false
         → Tied f x g (note (decide (nodeAt table k) .answer)) k k (decide (nodeAt table k)))
-        → Goes f n x g (note (atNode decide k table store (recordsOf store) .answer)) (atNode decide k table store (recordsOf store))
+        → Tells f n x g note (atNode decide k table store (recordsOf store))
     unfolding atNode
     at-node note q decide k fit shape tie =
-        by-cond (λ (r : Result). Goes f n x g (note (r .answer)) r) (ltb k (groupSize (recordsOf store))) _ _
+        by-cond (Tells f n x g note) (ltb k (groupSize (recordsOf store))) _ _
         (λ e.
         let h : k < n = omega (arith, ltb-true k (groupSize (recordsOf store)) e, S .store-of .size) in
-        decided note q k k (decide (nodeAt table k)) h (shape (nodeAt table k) (S .shaped k)) (fit (nodeAt table k) (S .fit k)) (tie (in-view k h)))
+        decided note q k k (decide (nodeAt table k)) h
+        (shape (nodeAt table k) (S .shaped k)) (fit (nodeAt table k) (S .fit k)) (tie (in-view k h)))
         (λ _. refuses f n x table store g S note q NoNode)
 
     -- a message dropped: the view is the same, since it shows all that was ever sent
@@ -162,13 +164,14 @@ module _ (reads-back : ReadsBack) (f n x : ℕ) (odd : n ≡ suc (f + f)) (fits 
         mail : Mail n x g rs′
         mail i z c found = go (drop-reads (recordsOf store) (e .addressee) r d i z)
           where
-            go : Reads (recordIn rs′ i) (recordIn (recordsOf store) i) ⊎ ((k : ℕ) → readRecord k (recordIn rs′ i) ≡ Fault) → Carries x g c (rowsOf (recordIn rs′ i))
+            go : Reads (recordIn rs′ i) (recordIn (recordsOf store) i) ⊎ ((k : ℕ) → readRecord k (recordIn rs′ i) ≡ Fault)
+                → Carries x g c (rowsOf (recordIn rs′ i))
             go (inl R) = rw (R .rows) (S .mail i z c (sym (R .message n) ∙ found))
             go (inr none) = absurd (no-fault c _ found (none n))
 
     -- a message delivered
     delivers : (r : ℕ) (m : Reading) → messageIn (recordsOf store) r ≡ m
-        → Goes f n x g (told x (event.Deliver r) m (delivered m r table store (recordsOf store) .answer)) (delivered m r table store (recordsOf store))
+        → Tells f n x g (told x (event.Deliver r) m) (delivered m r table store (recordsOf store))
     unfolding delivered
     delivers r Fault h = refuses f n x table store g S (λ _. quiet) (λ _ _. refl) NoMessage
     delivers r (Found e) h =
@@ -194,7 +197,8 @@ module _ (reads-back : ReadsBack) (f n x : ℕ) (odd : n ≡ suc (f + f)) (fits 
         C : Carries x g e items
         C =
             S .mail r (message-read (recordsOf store) r e h .0) e
-            (subst (λ (i : ℕ). readRecord i (recordIn (recordsOf store) r) ≡ Found e) (S .store-of .size) (message-read (recordsOf store) r e h .1))
+            (subst (λ (i : ℕ). readRecord i (recordIn (recordsOf store) r) ≡ Found e) (S .store-of .size)
+            (message-read (recordsOf store) r e h .1))
 
         arrived : Arrived n x k g e items
         arrived =
@@ -209,31 +213,37 @@ module _ (reads-back : ReadsBack) (f n x : ℕ) (odd : n ≡ suc (f + f)) (fits 
         step-fits : StepFits node (deliverStep node e items)
         step-fits = deliver-fits node e items (S .fit k) (C .fits .1) (C .items-fit) (C .fits .0)
 
-    on-sound : (e : Event) → TagFits e → Goes f n x g (told x e (deliveredBy e store) (onSound e table store (recordsOf store) .answer)) (onSound e table store (recordsOf store))
+    on-sound : (e : Event) → TagFits e → Tells f n x g (told x e (deliveredBy e store)) (onSound e table store (recordsOf store))
     unfolding onSound deliveredBy TagFits
     on-sound (event.Write k tag) t =
         at-node (told x (event.Write k tag) Fault) (told-quiet x (event.Write k tag) Fault) (λ node. writeStep node tag) k
-        (λ node N. write-fits node N tag t) (λ node s. write-shaped node tag s)
-        (λ (w : InView f n x k g (nodeAt table k)) e. subst (λ (b : Bool). Tied f x g (cond b (cond (eqb k x) (begins tag) quiet) quiet) k k (writeStep (nodeAt table k) tag))
-        (sym (write-ok (nodeAt table k) tag e)) (write-tied tag w e))
-    on-sound (event.Retry k) t =
-        at-node (told x (event.Retry k) Fault) (told-quiet x (event.Retry k) Fault) retryStep k retry-fits retry-shaped (λ (w : InView f n x k g (nodeAt table k)) e. retry-tied w e)
-    on-sound (event.Crash k) t =
-        at-node (told x (event.Crash k) Fault) (told-quiet x (event.Crash k) Fault) crashStep k crash-fits crash-shaped (λ (w : InView f n x k g (nodeAt table k)) e. crash-tied w e)
-    on-sound (event.Start k) t =
-        at-node (told x (event.Start k) Fault) (told-quiet x (event.Start k) Fault) startStep k start-fits start-shaped (λ (w : InView f n x k g (nodeAt table k)) e. start-tied w e)
+        (λ node N. write-fits node N tag t) (λ node s. write-shaped node tag s) begins-there
+      where
+        node : Node
+        node = nodeAt table k
+
+        begins-there : InView f n x k g node → isRefused (writeStep node tag .answer) ≡ false
+            → Tied f x g (told x (event.Write k tag) Fault (writeStep node tag .answer)) k k (writeStep node tag)
+        begins-there w e =
+            subst (λ (b : Bool). Tied f x g (cond b (cond (eqb k x) (begins tag) quiet) quiet) k k (writeStep node tag))
+            (sym (write-ok node tag e)) (write-tied tag w e)
+    on-sound (event.Retry k) t = at-node (λ _. quiet) (λ _ _. refl) retryStep k retry-fits retry-shaped (λ w e. retry-tied w e)
+    on-sound (event.Crash k) t = at-node (λ _. quiet) (λ _ _. refl) crashStep k crash-fits crash-shaped (λ w e. crash-tied w e)
+    on-sound (event.Start k) t = at-node (λ _. quiet) (λ _ _. refl) startStep k start-fits start-shaped (λ w e. start-tied w e)
     on-sound (event.Drop r) t = drops r (messageIn (recordsOf store) r) refl
     on-sound (event.Deliver r) t = delivers r (messageIn (recordsOf store) r) refl
 
   -- every call
-  pub performed : (e : Event) → TagFits e → Goes f n x g (told x e (deliveredBy e store) (perform e table store .answer)) (perform e table store)
+  pub performed : (e : Event) → TagFits e → Tells f n x g (told x e (deliveredBy e store)) (perform e table store)
   unfolding perform onRecords
   performed e t =
+      let rs : List (List ℕ) = recordsOf store in
       let note : Answer → Note = told x e (deliveredBy e store) in
       let q : Quiet note = told-quiet x e (deliveredBy e store) in
-      by-cond (λ (r : Result). Goes f n x g (note (r .answer)) r) (rightLength store) _ _
-      (λ _. by-cond (λ (r : Result). Goes f n x g (note (r .answer)) r) (soundRecords (recordsOf store) && soundTable (groupSize (recordsOf store)) table) _ _
-      (λ b. on-sound (and-left (soundRecords (recordsOf store)) _ b)
-      (subst (λ (i : ℕ). soundTable i table ≡ true) (S .store-of .size) (and-right (soundRecords (recordsOf store)) (soundTable (groupSize (recordsOf store)) table) b)) e t)
+      by-cond (Tells f n x g note) (rightLength store) _ _
+      (λ _. by-cond (Tells f n x g note) (soundRecords rs && soundTable (groupSize rs) table) _ _
+      (λ b.
+      let of-n : soundTable n table ≡ true = subst (λ (i : ℕ). soundTable i table ≡ true) (S .store-of .size) (and-right (soundRecords rs) _ b) in
+      on-sound (and-left (soundRecords rs) _ b) of-n e t)
       (λ _. refuses f n x table store g S note q Unsound))
       (λ _. refuses f n x table store g S note q StoreLength)

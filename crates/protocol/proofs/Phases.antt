@@ -1,8 +1,7 @@
 -- The tests on a node's phase, read in x's view: which phase and stage the view shows, and that it is live. Each by cases.
-use Prim.Native.Nat.{ℕ}
 use mathlib.Core.Path.{_≡_, refl, sym}
-use mathlib.Core.Bool.{Bool, true, false, _||_, false≢true}
-use Rattle.returns.specs.View.{down, fetching, returning, up, idle, storing, confirming, live, clash}
+use mathlib.Core.Bool.{true, false, false≢true}
+use Rattle.returns.specs.View.{returning, up, idle, storing, confirming, live, clash}
 use Rattle.protocol.specs.Phase.{
   isDown,
   isFetching,

@@ -1,6 +1,6 @@
 -- Node k is x, or it is another: what each tie lemma does at x is lifted here to k, and what a live node other than x may do
 -- to its own write is one change of the relation.
-use Prim.Native.Nat.{ℕ, _<_}
+use Prim.Native.Nat.{ℕ, _≤_, _<_}
 use native.Mathlib.Omega.{arith}
 use mathlib.Core.Path.{_≡_, refl, sym, ap, subst}
 use mathlib.Core.Logic.{_≢_}
@@ -43,7 +43,8 @@ module _ {f n x k : ℕ} {g : View} {node : Node} (v : InView f n x k g node) wh
   pub counted-of-group : (q : ℕ) (i : Incarnation) → q < n
       → countPeers (set (node .counted) q (peerUnder i)) ≡ count (replaced (g .node k .counted) q true) (groupSize f)
   counted-of-group q i l =
-      rw (v .view, ← v .size) (count-group k n (node .counted) (counted-sound n k node (v .sound)) (omega (arith, v .fits, v .shaped .counted-length)) q i l)
+      let fits : n ≤ length (node .counted) = omega (arith, v .fits, v .shaped .counted-length) in
+      rw (v .view, ← v .size) (count-group k n (node .counted) (counted-sound n k node (v .sound)) fits q i l)
 
   pub numbered : node .number ≡ k
   numbered = number-is n k node (v .sound)
@@ -58,7 +59,12 @@ module _ {f n x k : ℕ} {g : View} {node : Node} (v : InView f n x k g node) wh
       → (seenPhase (node .phase) ≡ up → seenPhase (node′ .phase) ≡ up) → rowOf node′ x .item ≡ rowOf node x .item
       → Change f x g quiet k (seen x node′)
   at-other node′ d i l l′ u r = elsewhere k (seen x node′) d
-      (record { same-incarnation = rw (v .view) (ap (λ (j : Incarnation). j .0) i); was-live = rw (v .view) l; is-live = l′; stays-up = rw (v .view) u })
+      (record {
+        same-incarnation = rw (v .view) (ap (λ (j : Incarnation). j .0) i);
+        was-live = rw (v .view) l;
+        is-live = l′;
+        stays-up = rw (v .view) u;
+      })
       (rw (v .view) r)
 
 -- the own item of x is in row x

@@ -110,13 +110,21 @@ module _ (table : List Node) (store : List ℕ) (rs : List (List ℕ)) where
   on-sound-refused : (e : Event) → IfRefused (refusalsOf e) table store (onSound e table store rs)
   unfolding onSound refusalsOf
   on-sound-refused (event.Write k tag) =
-      at-node-refused _ table store (λ node. writeStep node tag) k rs (found _ _ refl) (wider ofNode _ refl (writeStep (nodeAt table k) tag) (write-decides (nodeAt table k) tag)) (λ _. found _ _ refl)
+      let step : Step = writeStep (nodeAt table k) tag in
+      at-node-refused _ table store (λ node. writeStep node tag) k rs (found _ _ refl)
+      (wider ofNode _ refl step (write-decides (nodeAt table k) tag)) (λ _. found _ _ refl)
   on-sound-refused (event.Retry k) =
-      at-node-refused _ table store retryStep k rs (found _ _ refl) (wider ofNode _ refl (retryStep (nodeAt table k)) (retry-decides (nodeAt table k))) (λ _. found _ _ refl)
+      let step : Step = retryStep (nodeAt table k) in
+      at-node-refused _ table store retryStep k rs (found _ _ refl)
+      (wider ofNode _ refl step (retry-decides (nodeAt table k))) (λ _. found _ _ refl)
   on-sound-refused (event.Crash k) =
-      at-node-refused _ table store crashStep k rs (found _ _ refl) (wider (5 ∷ []) _ refl (crashStep (nodeAt table k)) (crash-decides (nodeAt table k))) (crash-room rs (nodeAt table k) k _)
+      let step : Step = crashStep (nodeAt table k) in
+      at-node-refused _ table store crashStep k rs (found _ _ refl)
+      (wider (5 ∷ []) _ refl step (crash-decides (nodeAt table k))) (crash-room rs (nodeAt table k) k _)
   on-sound-refused (event.Start k) =
-      at-node-refused _ table store startStep k rs (found _ _ refl) (wider ofNode _ refl (startStep (nodeAt table k)) (start-decides (nodeAt table k))) (λ _. found _ _ refl)
+      let step : Step = startStep (nodeAt table k) in
+      at-node-refused _ table store startStep k rs (found _ _ refl)
+      (wider ofNode _ refl step (start-decides (nodeAt table k))) (λ _. found _ _ refl)
   on-sound-refused (event.Drop r) = dropped-refused r (messageIn rs r)
   on-sound-refused (event.Deliver r) = delivered-refused r (messageIn rs r)
 

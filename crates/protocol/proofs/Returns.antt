@@ -12,7 +12,6 @@ use Rattle.item.specs.Item.{zeroItem}
 use Rattle.item.specs.Maxima.{maxNodes, validSize}
 use Rattle.item.specs.Tests.{by-cond, and-left}
 use Rattle.item.specs.declared.Item.{Item}
-use Rattle.record.specs.RoundTrip.{ReadsBack}
 use Rattle.record.specs.declared.Reading.{Reading}
 use Rattle.record.specs.declared.Reading.the-variants.{Found, Fault}
 use Rattle.returns.specs.History.{Note, returns, History, atSetUp, afterNote, May}
@@ -47,17 +46,19 @@ no-call (c ∷ before) call after e = clash (cc)
 
 -- ---- a call that returns, at a node of the group
 
-returned-sound : (e : Event) (table : List Node) (store : List ℕ) (item : Item) → perform e table store .answer ≡ answer.Accepted item
-    → soundRecords (recordsOf store) ≡ true
+returned-sound : (e : Event) (table : List Node) (store : List ℕ) (item : Item)
+    → perform e table store .answer ≡ answer.Accepted item → soundRecords (recordsOf store) ≡ true
 unfolding perform onRecords refuse
 returned-sound e table store item =
     by-cond (λ (r : Result). r .answer ≡ answer.Accepted item → soundRecords (recordsOf store) ≡ true) (rightLength store) _ _
-    (λ _. by-cond (λ (r : Result). r .answer ≡ answer.Accepted item → soundRecords (recordsOf store) ≡ true) (soundRecords (recordsOf store) && soundTable (groupSize (recordsOf store)) table) _ _
+    (λ _. by-cond (λ (r : Result). r .answer ≡ answer.Accepted item → soundRecords (recordsOf store) ≡ true)
+    (soundRecords (recordsOf store) && soundTable (groupSize (recordsOf store)) table) _ _
     (λ b _. and-left (soundRecords (recordsOf store)) _ b)
     (λ _ z. clash (cc)))
     (λ _ z. clash (cc))
 
-addressee-at : (rs : List (List ℕ)) (r x : ℕ) (m : Reading) → soundRecords rs ≡ true → messageIn rs r ≡ m → isTo x m ≡ true → x < groupSize rs
+addressee-at : (rs : List (List ℕ)) (r x : ℕ) (m : Reading) → soundRecords rs ≡ true → messageIn rs r ≡ m → isTo x m ≡ true
+    → x < groupSize rs
 unfolding isTo
 addressee-at rs r x Fault s h e = absurd (false≢true e)
 addressee-at rs r x (Found c) s h e =
@@ -66,8 +67,8 @@ addressee-at rs r x (Found c) s h e =
     omega arith
 
 -- the node that returns is one of the group
-returned-below : (e : Event) (table : List Node) (store : List ℕ) (x : ℕ) (item : Item) → perform e table store .answer ≡ answer.Accepted item
-    → isTo x (deliveredBy e store) ≡ true → x < groupSize (recordsOf store)
+returned-below : (e : Event) (table : List Node) (store : List ℕ) (x : ℕ) (item : Item)
+    → perform e table store .answer ≡ answer.Accepted item → isTo x (deliveredBy e store) ≡ true → x < groupSize (recordsOf store)
 unfolding deliveredBy isTo
 returned-below (event.Write k tag) table store x item a t = absurd (false≢true t)
 returned-below (event.Retry k) table store x item a t = absurd (false≢true t)
@@ -83,7 +84,8 @@ returned-below (event.Deliver r) table store x item a t =
 abbrev Claimed : ℕ → History → Item → List Call → Type 0
 Claimed x h item before =
     (item ≡ lastFrom x (h .last) before) ⊎
-    ((item .index .0 ≡ suc (lastFrom x (h .last) before .index .0)) × (List·Memᴰ item (h .begun) ⊎ List·Memᴰ item (begunFrom x (h .last) before)))
+    ((item .index .0 ≡ suc (lastFrom x (h .last) before .index .0)) ×
+    (List·Memᴰ item (h .begun) ⊎ List·Memᴰ item (begunFrom x (h .last) before)))
 
 -- the call that returns: what the invariant allows
 claimed-here : (x : ℕ) (h : History) (item : Item) → May h (returns item) → Claimed x h item []
@@ -110,16 +112,18 @@ module _ (x : ℕ) (e : Event) (store : List ℕ) (a : Answer) (h : History) (it
           → List·Memᴰ item (h .begun) ⊎ List·Memᴰ item (begunAt x e a (h .last) ++ begunFrom x last before)
       among (inl m) = old (told-begun x e store a h item m)
         where
-          old : List·Memᴰ item (h .begun) ⊎ List·Memᴰ item (begunAt x e a (h .last)) → List·Memᴰ item (h .begun) ⊎ List·Memᴰ item (begunAt x e a (h .last) ++ begunFrom x last before)
+          old : List·Memᴰ item (h .begun) ⊎ List·Memᴰ item (begunAt x e a (h .last))
+              → List·Memᴰ item (h .begun) ⊎ List·Memᴰ item (begunAt x e a (h .last) ++ begunFrom x last before)
           old (inl k) = inl k
           old (inr k) = inr (Memᴰ·append-left (begunFrom x last before) k)
-      among (inr m) = inr (Memᴰ·append-right (begunAt x e a (h .last)) (subst (λ (i : Item). List·Memᴰ item (begunFrom x i before)) moved m))
+      among (inr m) =
+          inr (Memᴰ·append-right (begunAt x e a (h .last)) (subst (λ (i : Item). List·Memᴰ item (begunFrom x i before)) moved m))
 
       go : Claimed x h′ item before → Claimed x h item (answered e store a ∷ before)
       go (inl z) = inl (z ∙ ap (λ (i : Item). lastFrom x i before) moved)
       go (inr z) = inr (z .0 ∙ ap (λ (i : Item). suc (lastFrom x i before .index .0)) moved, among (z .1))
 
-module _ (reads-back : ReadsBack) (f n : ℕ) (odd : n ≡ suc (f + f)) (fits : n ≤ maxNodes) where
+module _ (f n : ℕ) (odd : n ≡ suc (f + f)) (fits : n ≤ maxNodes) where
   -- along the calls of a run, from any point of it
   along : (x : ℕ) → x < n → (events : List Event) → TagsFit events → (table : List Node) (store : List ℕ) (g : View) (h : History)
       → Stands n x table store g → Invariant f x h g → (before : List Call) (call : Call) (after : List Call)
@@ -127,7 +131,9 @@ module _ (reads-back : ReadsBack) (f n : ℕ) (odd : n ≡ suc (f + f)) (fits : 
   unfolding calls callOf TagsFit
   along x below [] t table store g h S I before call after eq item R = absurd (no-call before call after eq)
   along x below (e ∷ events) t table store g h S I before call after eq item R =
-      go before eq (λ b z. along x below events (t .1) (perform e table store .table) (perform e table store .store) (G .after) (afterNote h note) (G .stands) (K .1) b call after z item R)
+      go before eq
+      (λ b z. along x below events (t .1) (perform e table store .table) (perform e table store .store)
+      (G .after) (afterNote h note) (G .stands) (K .1) b call after z item R)
     where
       a : Answer
       a = perform e table store .answer
@@ -136,7 +142,7 @@ module _ (reads-back : ReadsBack) (f n : ℕ) (odd : n ≡ suc (f + f)) (fits : 
       note = told x e (deliveredBy e store) a
 
       G : Goes f n x g note (perform e table store)
-      G = performed reads-back f n x odd fits below table store g S e (t .0)
+      G = performed f n x odd fits below table store g S e (t .0)
 
       below-odd : x < suc (f + f)
       below-odd = omega arith
@@ -170,13 +176,15 @@ module _ (reads-back : ReadsBack) (f n : ℕ) (odd : n ≡ suc (f + f)) (fits : 
   unfolding calls callOf TagsFit
   below-n x some [] t table store g S before call after eq item R = absurd (no-call before call after eq)
   below-n x some (e ∷ events) t table store g S before call after eq item R =
-      go before eq (λ b z. below-n x some events (t .1) (perform e table store .table) (perform e table store .store) (G .after) (G .stands) b call after z item R)
+      go before eq
+      (λ b z. below-n x some events (t .1) (perform e table store .table) (perform e table store .store)
+      (G .after) (G .stands) b call after z item R)
     where
       a : Answer
       a = perform e table store .answer
 
       G : Goes f n 0 g (told 0 e (deliveredBy e store) a) (perform e table store)
-      G = performed reads-back f n 0 odd fits some table store g S e (t .0)
+      G = performed f n 0 odd fits some table store g S e (t .0)
 
       rest : List Call
       rest = calls (perform e table store .table) (perform e table store .store) events
@@ -184,9 +192,11 @@ module _ (reads-back : ReadsBack) (f n : ℕ) (odd : n ≡ suc (f + f)) (fits : 
       here : answered e store a ≡ call → x < n
       here z =
           subst (λ (i : ℕ). x < i) (S .store-of .size)
-          (returned-below e table store x item (ap (λ (c : Call). c .answer) z ∙ R .accepted) (ap (λ (c : Call). isTo x (c .message)) z ∙ R .at-x))
+          (returned-below e table store x item (ap (λ (c : Call). c .answer) z ∙ R .accepted)
+          (ap (λ (c : Call). isTo x (c .message)) z ∙ R .at-x))
 
-      go : (b : List Call) → answered e store a ∷ rest ≡ b ++ (call ∷ after) → ((b′ : List Call) → rest ≡ b′ ++ (call ∷ after) → x < n) → x < n
+      go : (b : List Call) → answered e store a ∷ rest ≡ b ++ (call ∷ after)
+          → ((b′ : List Call) → rest ≡ b′ ++ (call ∷ after) → x < n) → x < n
       go [] z r = here (cc)
       go (c ∷ b) z r = let w : rest ≡ b ++ (call ∷ after) = cc in r b w
 
@@ -204,18 +214,17 @@ claimed-first x item before (inr m) = inr (m .0, go (m .1))
     go (inl k) = absurd (List·Memᴰ·not-nil k)
     go (inr k) = k
 
-module _ (reads-back : ReadsBack) where
-  pub every-return-from : EveryReturn
-  unfolding EveryReturn
-  every-return-from n table store ok events t before call after eq x item R =
-      let U : SetUpTo n (setUp n table store) = set-up-is n table store ok in
-      let f : ℕ = half n in
-      let odd : n ≡ suc (f + f) = odd-size n (U .valid) in
-      let fits : n ≤ maxNodes = size-fits n (U .valid) in
-      let first : (y : ℕ) → Stands n y (setUp n table store .table) (setUp n table store .store) (record { node = firstNodes n y; sent = [] })
-      = λ y. rw (U .table-is, U .store-is) (first-stands n y) in
-      let below : x < n = below-n reads-back f n odd fits x (some-node n (U .valid)) events t _ _ _ (first 0) before call after eq item R in
-      let odd-below : x < suc (f + f) = omega arith in
-      claimed-first x item before
-      (along reads-back f n odd fits x below events t _ _ _ atSetUp (first x)
-      (invariant-set-up f x odd-below (firstNodes n x) (first-set-up n x)) before call after eq item R)
+pub every-return : EveryReturn
+unfolding EveryReturn
+every-return n table store ok events t before call after eq x item R =
+    let U : SetUpTo n (setUp n table store) = set-up-is n table store ok in
+    let f : ℕ = half n in
+    let odd : n ≡ suc (f + f) = odd-size n (U .valid) in
+    let fits : n ≤ maxNodes = size-fits n (U .valid) in
+    let first : (y : ℕ) → Stands n y (setUp n table store .table) (setUp n table store .store) (record { node = firstNodes n y; sent = [] })
+    = λ y. rw (U .table-is, U .store-is) (first-stands n y) in
+    let below : x < n = below-n f n odd fits x (some-node n (U .valid)) events t _ _ _ (first 0) before call after eq item R in
+    let odd-below : x < suc (f + f) = omega arith in
+    claimed-first x item before
+    (along f n odd fits x below events t _ _ _ atSetUp (first x)
+    (invariant-set-up f x odd-below (firstNodes n x) (first-set-up n x)) before call after eq item R)

@@ -1,27 +1,26 @@
 -- Row x of a node after each change of its rows: one row is set, all are merged with a table, the own item is written back.
 -- The merge has the properties that the relation asks (`Merged`), case by case.
-use Prim.Native.Nat.{ℕ, zero, suc, _≤_, _<_}
+use Prim.Native.Nat.{ℕ, zero, suc, _<_}
 use native.Mathlib.Omega.{arith}
-use mathlib.Core.Path.{_≡_, refl, sym, ap, _∙_, subst}
+use mathlib.Core.Path.{_≡_, refl, sym, ap, _∙_}
 use mathlib.Core.Logic.{_≢_}
-use mathlib.Core.Bool.{Bool, true, false, cond, false≢true}
+use mathlib.Core.Bool.{Bool, true, false, false≢true}
 use mathlib.Core.List.{List, [], _∷_}
-use lib.Dec.{eqb, ltb}
+use lib.Dec.{eqb}
 use lib.ListN.{length, getD, set, replicate}
 use lib.Seq.{getD-set-same, getD-set-other}
-use borrow.Author.Tests.{eqb-true, eqb-false, ltb-false}
+use borrow.Author.Tests.{eqb-true, eqb-false}
 use Rattle.item.specs.Item.{zeroItem, ranksBelow, sameItem}
 use Rattle.item.specs.Laws.{same-item}
 use Rattle.item.specs.Maxima.{maxNodes}
 use Rattle.item.specs.Row.{zeroRow}
 use Rattle.item.specs.Tests.{by-cond}
 use Rattle.item.specs.declared.Attempt.{Attempt}
-use Rattle.item.specs.declared.Incarnation.{Incarnation}
 use Rattle.item.specs.declared.Item.{Item}
 use Rattle.item.specs.declared.Row.{Row}
 use Rattle.returns.specs.Merge.{Merged, merged-first, merged-higher, merged-lower, merged-level}
 use Rattle.returns.specs.View.{ViewNode}
-use Rattle.protocol.specs.Merge.{markedRow, mergeRow, mergeRows, lowestMarked}
+use Rattle.protocol.specs.Merge.{mergeRow, mergeRows, lowestMarked}
 use Rattle.protocol.specs.Node.{rowOf, ownItem, storedRow, zeroRows, storingBegun, withRow}
 use Rattle.protocol.specs.declared.Node.{Node}
 use Rattle.protocol.specs.declared.Phase.{Phase}

@@ -59,7 +59,9 @@ module _ (x : ℕ) (rows : List Item) where
 
       go : (List·Memᴰ o os → o .present ≡ true → Each (λ m. List·Memᴰ m (sentOf os)) (seenMessage x (o .envelope) rows))
           → (o ≡ p) ⊎ List·Memᴰ o os → Each (λ m. List·Memᴰ m (sentOf (p ∷ os))) (seenMessage x (o .envelope) rows)
-      go r (inl z) = subst (λ (q : Outgoing). q .present ≡ true → Each (λ m. List·Memᴰ m (sentOf (p ∷ os))) (seenMessage x (q .envelope) rows)) (sym z) first e
+      go r (inl z) =
+          subst (λ (q : Outgoing). q .present ≡ true → Each (λ m. List·Memᴰ m (sentOf (p ∷ os))) (seenMessage x (q .envelope) rows))
+          (sym z) first e
       go r (inr k) = λ v j. Memᴰ·append-right (cond (p .present) (seenMessage x (p .envelope) rows) []) (r k e v j)
 
 -- ---- every envelope that is sent fits its record
@@ -106,7 +108,8 @@ pub node-items-fit : (node : Node) → NodeFits node → (j : ℕ) → ItemFits 
 node-items-fit node N j = rw (node-items node j) (N .items-fit j)
 
 -- an item of a padded list is one of the list's, or the zero item
-padded-any : (P : Item → Type 0) → P zeroItem → (m : ℕ) (items : List Item) → ((j : ℕ) → P (getD items j zeroItem)) → (j : ℕ) → P (getD (padded m items) j zeroItem)
+padded-any : (P : Item → Type 0) → P zeroItem → (m : ℕ) (items : List Item) → ((j : ℕ) → P (getD items j zeroItem))
+    → (j : ℕ) → P (getD (padded m items) j zeroItem)
 unfolding padded
 padded-any P z zero items h j = z
 padded-any P z (suc m) [] h zero = z
@@ -114,13 +117,15 @@ padded-any P z (suc m) [] h (suc j) = padded-any P z m [] (λ _. z) j
 padded-any P z (suc m) (i ∷ items) h zero = h 0
 padded-any P z (suc m) (i ∷ items) h (suc j) = padded-any P z m items (λ k. h (suc k)) j
 
-take-any : (P : Item → Type 0) → P zeroItem → (m : ℕ) (items : List Item) → ((j : ℕ) → P (getD items j zeroItem)) → (j : ℕ) → P (getD (take m items) j zeroItem)
+take-any : (P : Item → Type 0) → P zeroItem → (m : ℕ) (items : List Item) → ((j : ℕ) → P (getD items j zeroItem))
+    → (j : ℕ) → P (getD (take m items) j zeroItem)
 take-any P z zero items h j = z
 take-any P z (suc m) [] h j = z
 take-any P z (suc m) (i ∷ items) h zero = h 0
 take-any P z (suc m) (i ∷ items) h (suc j) = take-any P z m items (λ k. h (suc k)) j
 
-pub held-fit : (m : Message) (n : ℕ) (items : List Item) → ((j : ℕ) → ItemFits (getD items j zeroItem)) → (j : ℕ) → ItemFits (getD (heldRows m n items) j zeroItem)
+pub held-fit : (m : Message) (n : ℕ) (items : List Item) → ((j : ℕ) → ItemFits (getD items j zeroItem))
+    → (j : ℕ) → ItemFits (getD (heldRows m n items) j zeroItem)
 unfolding heldRows
 held-fit m n items h =
     padded-any ItemFits zero-fits maxNodes (take (rowsHeld m n) items) (take-any ItemFits zero-fits (rowsHeld m n) items h)

@@ -1,9 +1,8 @@
 -- Every decision keeps the lengths of a node's lists: rows and peers are only set in place, merged or made anew.
 use Prim.Native.Nat.{ℕ}
-use mathlib.Core.Path.{_≡_, refl, _∙_}
+use mathlib.Core.Path.{refl, _∙_}
 use mathlib.Core.List.{List}
-use lib.ListN.{length, length-set, length-replicate}
-use Rattle.item.specs.Maxima.{maxNodes}
+use lib.ListN.{length-set}
 use Rattle.item.specs.declared.Attempt.{Attempt}
 use Rattle.item.specs.declared.Incarnation.{Incarnation}
 use Rattle.item.specs.declared.Item.{Item}
@@ -15,8 +14,7 @@ use Rattle.message.specs.declared.Message.the-variants as message
 use Rattle.protocol.specs.Answer.{ok, refused}
 use Rattle.protocol.specs.Deliver.{onMessage, deliverStep}
 use Rattle.protocol.specs.Fetching.{withTable, noneCounted, stopped, writtenBack}
-use Rattle.protocol.specs.Merge.{mergeRows}
-use Rattle.protocol.specs.Node.{noPeer, zeroRows, blankNode, crashed, started, storingBegun, withRow, withRows, withCounted, confirmingBegun, writeEnded}
+use Rattle.protocol.specs.Node.{blankNode, freshNode, crashed, started, storingBegun, withRow, withRows, withCounted, confirmingBegun, writeEnded}
 use Rattle.protocol.specs.Storing.{sendConfirm, storeSuccess}
 use Rattle.protocol.specs.Write.{sendStore, sendFetch, written, retried, writeStep, retryStep, crashStep, startStep}
 use Rattle.protocol.specs.declared.Node.{Node}
@@ -43,6 +41,10 @@ use Rattle.protocol.proofs.Rows.{merged-length}
 crashed-shaped : (node : Node) → Shaped (crashed node)
 unfolding crashed blankNode
 crashed-shaped node = record { rows-length = refl; counted-length = refl; asked-length = refl }
+
+pub fresh-shaped : (number n : ℕ) → Shaped (freshNode number n)
+unfolding freshNode writeEnded blankNode
+fresh-shaped number n = record { rows-length = refl; counted-length = refl; asked-length = refl }
 
 started-shaped : (node : Node) → Shaped (started node)
 unfolding started

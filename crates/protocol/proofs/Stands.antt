@@ -17,7 +17,7 @@ use Rattle.message.specs.declared.Envelope.{Envelope}
 use Rattle.message.specs.declared.Outgoing.{Outgoing}
 use Rattle.record.specs.Layout.{recordSize, rowsOf}
 use Rattle.record.specs.Record.{readRecord, recordBytes, heldRows}
-use Rattle.record.specs.RoundTrip.{ItemFits, Fits, ReadsBack}
+use Rattle.record.specs.RoundTrip.{ItemFits, Fits, ReadsBack, reads-back}
 use Rattle.record.specs.declared.Reading.the-variants.{Found}
 use Rattle.returns.specs.Change.{Change, MaySend, Next, same, did-at}
 use Rattle.returns.specs.History.{Note, quiet}
@@ -75,14 +75,20 @@ store-after n store rs S L =
     (record { right = joined-right rs many sized; size = ap groupSize e ∙ L .size ∙ S .size }, e)
 
 -- what was sent stays sent
-pub carries-more : (x : ℕ) (g g′ : View) (e : Envelope) (items : List Item) → ((m : ViewMessage) → Sent m g → Sent m g′) → Carries x g e items → Carries x g′ e items
-carries-more x g g′ e items more C = record { fits = C .fits; items-fit = C .items-fit; was-sent = λ m k. more m (C .was-sent m k) }
+pub carries-more : (x : ℕ) (g g′ : View) (e : Envelope) (items : List Item) → ((m : ViewMessage) → Sent m g → Sent m g′)
+    → Carries x g e items → Carries x g′ e items
+carries-more x g g′ e items more C =
+    record { fits = C .fits; items-fit = C .items-fit; was-sent = λ m k. more m (C .was-sent m k) }
 
 -- one call from the view g: it tells the note, and table and store afterwards are those of the view after it
 pub record Goes (f n x : ℕ) (g : View) (note : Note) (result : Result) : Type 0 where
   pub after : View
   pub next : Next f x g note after
   pub stands : Stands n x (result .table) (result .store) after
+
+-- one call whose note goes by its answer
+abbrev pub Tells : ℕ → ℕ → ℕ → View → (Answer → Note) → Result → Type 0
+Tells f n x g note result = Goes f n x g (note (result .answer)) result
 
 -- a note that a refusal never tells
 abbrev pub Quiet : (Answer → Note) → Type 0
@@ -91,18 +97,19 @@ Quiet note = (a : Answer) → isRefused a ≡ true → note a ≡ quiet
 module _ (f n x : ℕ) (table : List Node) (store : List ℕ) (g : View) (S : Stands n x table store g) where
   -- a refused call
   pub stays : (note : Answer → Note) → Quiet note → (a : Answer) → isRefused a ≡ true
-      → Goes f n x g (note a) (record { answer = a; table = table; store = store })
+      → Tells f n x g note (record { answer = a; table = table; store = store })
   stays note q a e = record { after = g; next = subst (λ (t : Note). Next f x g t g) (sym (q a e)) same; stands = S }
 
-  pub refuses : (note : Answer → Note) → Quiet note → (why : Refusal) → Goes f n x g (note (refuse why table store .answer)) (refuse why table store)
+  pub refuses : (note : Answer → Note) → Quiet note → (why : Refusal) → Tells f n x g note (refuse why table store)
   unfolding refuse isRefused
   refuses note q why = stays note q (answer.Refused why) refl
 
-module _ (reads-back : ReadsBack) (f n x : ℕ) (fits : n ≤ maxNodes) (x-below : x < n)
+module _ (f n x : ℕ) (fits : n ≤ maxNodes) (x-below : x < n)
     (table : List Node) (store : List ℕ) (g : View) (S : Stands n x table store g) where
   -- the decision `step` of node k, accepted
-  module _ (k back : ℕ) (step : Step) (k-below : k < n) (count : length table ≡ n) (number : step .node .number ≡ k) (size : step .node .n ≡ n)
-      (shaped : Shaped (step .node)) (F : StepFits (nodeAt table k) step) (note : Note) (T : Tied f x g note k back step) where
+  module _ (k back : ℕ) (step : Step) (k-below : k < n) (count : length table ≡ n)
+      (number : step .node .number ≡ k) (size : step .node .n ≡ n) (shaped : Shaped (step .node))
+      (F : StepFits (nodeAt table k) step) (note : Note) (T : Tied f x g note k back step) where
     out : List Outgoing
     out = outgoing (step .node) (step .sends) back
 
@@ -132,18 +139,22 @@ module _ (reads-back : ReadsBack) (f n x : ℕ) (fits : n ≤ maxNodes) (x-below
         did-at f x g note k node′ ms
         (λ q d. ap (seen x) (at-other q d) ∙ sym (S .view q))
         (subst (λ (v : Node). Change f x g note k (seen x v)) (sym at-k) (T .changes))
-        (subst (λ (v : Node). Each (MaySend x g k (seen x v)) ms) (sym at-k) (each-sent x rows (MaySend x g k (seen x (step .node))) out (T .sending)))
+        (subst (λ (v : Node). Each (MaySend x g k (seen x v)) ms) (sym at-k)
+        (each-sent x rows (MaySend x g k (seen x (step .node))) out (T .sending)))
 
     -- a record that holds a message just sent
     new-mail : (r : List ℕ) (e : Envelope) → ReadsOne n out rows r → readRecord n r ≡ Found e → Carries x after e (rowsOf r)
     unfolding after ms rows out ReadsBack
-    new-mail r e O h = subst (λ (c : Envelope). Carries x after c (rowsOf r)) (sym same-envelope) (rw (O .reads .rows ∙ back-read .1) carried)
+    new-mail r e O h =
+        subst (λ (c : Envelope). Carries x after c (rowsOf r)) (sym same-envelope) (rw (O .reads .rows ∙ back-read .1) carried)
       where
         c : Envelope
         c = O .outgoing .envelope
 
         c-fits : Fits c
-        c-fits = outgoing-fits (step .node) (step .sends) back (F .node-fits) (F .sends-fit) (omega arith) (omega arith) (O .outgoing) (O .among) (O .present)
+        c-fits =
+            outgoing-fits (step .node) (step .sends) back (F .node-fits) (F .sends-fit) (omega arith) (omega arith)
+            (O .outgoing) (O .among) (O .present)
 
         back-read : (readRecord n (recordBytes n 0 c rows) ≡ Found c) × (rowsOf (recordBytes n 0 c rows) ≡ heldRows (c .message) n rows)
         back-read =
@@ -169,13 +180,21 @@ module _ (reads-back : ReadsBack) (f n x : ℕ) (fits : n ≤ maxNodes) (x-below
         rs′ : List (List ℕ)
         rs′ = putEach (recordsOf store) out rows
 
-        go : Reads (recordIn rs′ r) (recordIn (recordsOf store) r) ⊎ ReadsOne (groupSize (recordsOf store)) out rows (recordIn rs′ r) → Carries x after e (rowsOf (recordIn rs′ r))
+        old : List ℕ
+        old = recordIn (recordsOf store) r
+
+        go : Reads (recordIn rs′ r) old ⊎ ReadsOne (groupSize (recordsOf store)) out rows (recordIn rs′ r) → Carries x after e (rowsOf (recordIn rs′ r))
         go (inl R) =
-            rw (R .rows) (carries-more x g after e (rowsOf (recordIn (recordsOf store) r)) (λ m j. Memᴰ·append-right ms j) (S .mail r d e (sym (R .message n) ∙ h)))
+            let C : Carries x g e (rowsOf old) = S .mail r d e (sym (R .message n) ∙ h) in
+            rw (R .rows) (carries-more x g after e (rowsOf old) (λ m j. Memᴰ·append-right ms j) C)
         go (inr O) = new-mail (recordIn rs′ r) e (subst (λ (k : ℕ). ReadsOne k out rows (recordIn rs′ r)) (S .store-of .size) O) h
 
     pub accepted : (a : Answer) → Goes f n x g note
-        (record { answer = a; table = set table k (step .node); store = joined (putEach (recordsOf store) (outgoing (step .node) (step .sends) back) (rowItems (step .node))) })
+        (record {
+          answer = a;
+          table = set table k (step .node);
+          store = joined (putEach (recordsOf store) (outgoing (step .node) (step .sends) back) (rowItems (step .node)));
+        })
     unfolding after node′ ms rows out nodeAt
     accepted a =
         let rs′ : List (List ℕ) = putEach (recordsOf store) out rows in
@@ -193,13 +212,16 @@ module _ (reads-back : ReadsBack) (f n x : ℕ) (fits : n ≤ maxNodes) (x-below
         }
 
   -- a decision of node k carried out: refused, without room, or accepted
-  pub carried : (note : Answer → Note) → Quiet note → (k back : ℕ) (step : Step) → k < n → length table ≡ n → nodeAt table k .number ≡ k → nodeAt table k .n ≡ n
-      → Shaped (step .node) → StepFits (nodeAt table k) step → (isRefused (step .answer) ≡ false → Tied f x g (note (step .answer)) k back step)
-      → Goes f n x g (note (carriedOut table store (recordsOf store) k back step .answer)) (carriedOut table store (recordsOf store) k back step)
+  pub carried : (note : Answer → Note) → Quiet note → (k back : ℕ) (step : Step) → k < n → length table ≡ n
+      → nodeAt table k .number ≡ k → nodeAt table k .n ≡ n → Shaped (step .node) → StepFits (nodeAt table k) step
+      → (isRefused (step .answer) ≡ false → Tied f x g (note (step .answer)) k back step)
+      → Tells f n x g note (carriedOut table store (recordsOf store) k back step)
   unfolding carriedOut sentBy
   carried note q k back step k-below count number size shaped F T =
-      by-cond (λ (r : Result). Goes f n x g (note (r .answer)) r) (isRefused (step .answer)) _ _
+      let out : List Outgoing = outgoing (step .node) (step .sends) back in
+      by-cond (Tells f n x g note) (isRefused (step .answer)) _ _
       (λ e. stays f n x table store g S note q (step .answer) e)
-      (λ e. by-cond (λ (r : Result). Goes f n x g (note (r .answer)) r) (ltb (freeCount (recordsOf store)) (countOutgoing (outgoing (step .node) (step .sends) back))) _ _
+      (λ e. by-cond (Tells f n x g note) (ltb (freeCount (recordsOf store)) (countOutgoing out)) _ _
       (λ _. refuses f n x table store g S note q NoRoom)
-      (λ _. accepted k back step k-below count (F .same-number ∙ number) (F .same-size ∙ size) shaped F (note (step .answer)) (T e) (step .answer)))
+      (λ _. accepted k back step k-below count (F .same-number ∙ number) (F .same-size ∙ size) shaped F
+      (note (step .answer)) (T e) (step .answer)))

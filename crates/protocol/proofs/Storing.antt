@@ -4,10 +4,9 @@ use Prim.Native.Nat.{ℕ, _<_}
 use native.Mathlib.Omega.{arith}
 use mathlib.Core.Path.{_≡_, refl, sym, ap, _∙_, subst}
 use mathlib.Core.Logic.{_≢_}
-use mathlib.Core.Bool.{Bool, true, false, _&&_}
+use mathlib.Core.Bool.{true, false}
 use mathlib.Core.List.{List}
 use lib.ListN.{length}
-use Rattle.item.specs.Counter.{sameIncarnation, sameAttempt}
 use Rattle.item.specs.Item.{ranksBelow, sameItem}
 use Rattle.item.specs.Laws.{same-incarnation, same-attempt, same-item}
 use Rattle.item.specs.Tests.{and-left, and-right}
@@ -16,10 +15,10 @@ use Rattle.item.specs.declared.Incarnation.{Incarnation}
 use Rattle.item.specs.declared.Item.{Item}
 use Rattle.item.specs.declared.Row.{Row}
 use Rattle.message.specs.declared.Message.the-variants as message
-use Rattle.returns.specs.Change.{Change, Present, CountsStored, SameWrite, atStore, atStored, atLastStored, unchanged}
+use Rattle.returns.specs.Change.{Change, Present, CountsStored, atStore, atStored, atLastStored, unchanged}
 use Rattle.returns.specs.History.{quiet}
 use Rattle.returns.specs.Rank.{Above}
-use Rattle.returns.specs.View.{up, View, ViewNode, storeTo, storedBy, Sent, Each}
+use Rattle.returns.specs.View.{View, ViewNode, storeTo, storedBy, Sent, Each}
 use Rattle.protocol.specs.Answer.{ok}
 use Rattle.protocol.specs.Node.{rowOf, ownItem, storedRow, withRow, withCounted, confirmingBegun}
 use Rattle.protocol.specs.Phase.{isUp, isStoring, atStage}
@@ -38,11 +37,16 @@ use Rattle.protocol.proofs.Sending.{Delivered, sent-at, each-if-at, tie
 -- Store
 module _ {f n x k : ℕ} {g : View} {node : Node} (v : InView f n x k g node) (s : ℕ) (i : Incarnation) (a : Attempt) (item : Item) where
   -- from x: row x takes the item
-  store-own : (live-node : isUp (node .phase) ≡ true) → Above (rowOf node x .item) item → k ≢ x → Sent (storeTo k (i .0) (a .0) item) g
+  store-own : isUp (node .phase) ≡ true → Above (rowOf node x .item) item → k ≢ x → Sent (storeTo k (i .0) (a .0) item) g
       → Change f x g quiet k (seen x (withRow node x (storedRow item i a)))
   unfolding withRow
   store-own e above d sent = atStore k (i .0) (a .0) item (seen x (withRow node x (storedRow item i a))) d sent (rw (v .view) above)
-      (record { same-incarnation = rw (v .view); was-live = rw (v .view) (up-live (node .phase) e); is-live = up-live (node .phase) e; stays-up = λ u. up-seen (node .phase) e })
+      (record {
+        same-incarnation = rw (v .view);
+        was-live = rw (v .view) (up-live (node .phase) e);
+        is-live = up-live (node .phase) e;
+        stays-up = λ u. up-seen (node .phase) e;
+      })
       (ap (λ (r : Row). r .item) (row-taken node x (storedRow item i a) (row-there v)))
 
   -- from another: the view stays
@@ -51,6 +55,20 @@ module _ {f n x k : ℕ} {g : View} {node : Node} (v : InView f n x k g node) (s
   store-other d = unchanged k (seen x (withRow node s (storedRow item i a)))
       (rw (row-kept node s (storedRow item i a) x (λ (z : x ≡ s). d (sym z))) (sym (v .view)))
 
+  -- an item that the row takes is above the row's
+  taken-above : ranksBelow item (rowOf node s .item) ≡ false
+      → (ranksBelow (rowOf node s .item) item ≡ false → sameItem item (rowOf node s .item) ≡ true)
+      → s ≡ x → Above (rowOf node x .item) item
+  taken-above lower alike own = subst (λ (p : ℕ). Above (rowOf node p .item) item) own
+      (record { level = lower; tie = λ z. same-item item (rowOf node s .item) (alike z) })
+
+  -- and is the row's item afterwards
+  taken-item : s ≡ x → item ≡ rowOf (withRow node s (storedRow item i a)) x .item
+  taken-item own =
+      let l : s < length (node .rows) = omega (arith, row-there v) in
+      subst (λ (p : ℕ). item ≡ rowOf (withRow node s (storedRow item i a)) p .item) own
+      (sym (ap (λ (r : Row). r .item) (row-taken node s (storedRow item i a) l)))
+
   pub store-tied : (items : List Item) → s ≢ k → Each (λ m. Sent m g) (seenAs x (message.Store a item) s k i items)
       → IfTaken (Delivered f x g k s) (onStore node s i a item)
   unfolding ok withRow
@@ -58,13 +76,9 @@ module _ {f n x k : ℕ} {g : View} {node : Node} (v : InView f n x k g node) (s
       (λ e lower alike h. tied-back f x g k s (withRow node s (storedRow item i a)) (numbered v) quiet (message.Stored i a item)
       (by-place s x
       (λ (own : s ≡ x). subst (λ (p : ℕ). Change f x g quiet k (seen x (withRow node p (storedRow item i a)))) (sym own)
-      (store-own e (subst (λ (p : ℕ). Above (rowOf node p .item) item) own
-      (record { level = lower; tie = λ z. same-item item (rowOf node s .item) (alike z) }))
-      (λ (z : k ≡ x). d (own ∙ sym z)) (sent-at (λ m. Sent m g) x s _ own sent)))
+      (store-own e (taken-above lower alike own) (λ (z : k ≡ x). d (own ∙ sym z)) (sent-at (λ m. Sent m g) x s _ own sent)))
       store-other)
-      (each-if-at _ x s _ (λ (own : s ≡ x). (refl, up-seen (node .phase) e, refl,
-      sym (ap (λ (p : ℕ). rowOf (withRow node s (storedRow item i a)) p .item) (sym own)
-      ∙ ap (λ (r : Row). r .item) (row-taken node s (storedRow item i a) (subst (λ (p : ℕ). p < length (node .rows)) (sym own) (row-there v))))))))
+      (each-if-at _ x s _ (λ (own : s ≡ x). (refl, up-seen (node .phase) e, refl, taken-item own))))
 
 -- an answer to the present write of x
 pub own-present : (x : ℕ) (v : ViewNode) (node : Node) (other : Incarnation) (a : Attempt) (item : Item) → v ≡ seen x node
