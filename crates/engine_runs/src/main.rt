@@ -20,12 +20,6 @@ use protocol::Node;
 use protocol::Sends;
 use protocol::Step;
 
-// The two nodes of a write: the writer, and the one that stores and confirms.
-struct Pair {
-    writer: Node,
-    other: Node,
-}
-
 // The nodes of a group of three.
 struct Trio {
     first: Node,
@@ -246,18 +240,20 @@ fn hand(from: Step, to: Node) -> Step {
     report(deliver(to, envelope, items_of(rows)))
 }
 
-// The write that has begun goes through both rounds with one other node; the last message comes twice.
-fn both_rounds(begun: Step, other: Node) -> Pair {
-    let stored = hand(begun, other);
+// The write of node 0 that has begun goes through both rounds with node 1, and the last message comes twice.
+fn both_rounds(begun: Step, nodes: Trio) -> Trio {
+    let stored = hand(begun, nodes.second);
     let asking = hand(stored, begun.node);
     let confirmed = hand(asking, stored.node);
     let ended = hand(confirmed, asking.node);
-    let writer = ended.node;
-    hand(confirmed, writer);
-    let other = confirmed.node;
-    Pair {
-        writer: writer,
-        other: other,
+    let first = ended.node;
+    hand(confirmed, first);
+    let second = confirmed.node;
+    let third = nodes.third;
+    Trio {
+        first: first,
+        second: second,
+        third: third,
     }
 }
 
@@ -288,15 +284,7 @@ fn with_item(node: Node, index: u64, tag: u64) -> Node {
 // A write, settled.
 fn run_write(nodes: Trio) -> Trio {
     let begun = do_write(nodes.first, Tag(65));
-    let ended = both_rounds(begun, nodes.second);
-    let first = ended.writer;
-    let second = ended.other;
-    let third = nodes.third;
-    Trio {
-        first: first,
-        second: second,
-        third: third,
-    }
+    both_rounds(begun, nodes)
 }
 
 // A crash, and the return to accepted.
@@ -304,15 +292,7 @@ fn run_return(nodes: Trio) -> Trio {
     let down = do_crash(nodes.first);
     let started = do_start(down.node);
     let returning = two_tables(started, nodes.second, nodes.third);
-    let ended = both_rounds(returning, nodes.second);
-    let first = ended.writer;
-    let second = ended.other;
-    let third = nodes.third;
-    Trio {
-        first: first,
-        second: second,
-        third: third,
-    }
+    both_rounds(returning, nodes)
 }
 
 // Two tables that disagree on the row of node 2; then a late table of the earlier start, and one that comes twice.
