@@ -25,7 +25,8 @@ use Rattle.chains.specs.OnChains.{OnChains, free-is, inbox-is, sound-cha
 use Rattle.chains.specs.Message.{message-read, message-head}
 use Rattle.chains.specs.Links.{Small, same-first, same-head, free-set, free-first, free-head}
 use Rattle.chains.specs.Inbox.{InboxChanged, IsInbox, unlinked-is}
-use Rattle.chains.specs.Relinked.{Sound, size-least, size-most, head-long, free-there, free-inner, free-alone, inbox-inner, inbox-alone, inbox-there, inbox-once, inbox-only, is-inbox, Relinked, alike-belongs, relinked-chains}
+use Rattle.chains.specs.Sound.{Sound, size-least, size-most, head-long}
+use Rattle.chains.specs.Relinked.{free-there, free-inner, free-alone, inbox-inner, inbox-alone, inbox-there, inbox-once, inbox-only, is-inbox, Relinked, alike-belongs, relinked-chains}
 
 -- ---- the records, with the lists of their chains
 

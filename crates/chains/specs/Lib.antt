@@ -5,6 +5,9 @@ pub mod OnChains
 pub mod Message
 pub mod Links
 pub mod Inbox
+pub mod Sound
 pub mod Relinked
 pub mod Put
+pub mod PutEach
 pub mod Drop
+pub mod Empty

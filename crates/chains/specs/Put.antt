@@ -28,7 +28,8 @@ use Rattle.chains.specs.OnChains.{OnChains, at-most-once, free-is, inbox
 use Rattle.chains.specs.Message.{addressed-is, message-read, message-head}
 use Rattle.chains.specs.Links.{Small, same-free, same-first, same-head, free-set, free-first, free-head}
 use Rattle.chains.specs.Inbox.{InboxChanged, IsInbox, appended-is}
-use Rattle.chains.specs.Relinked.{Sound, size-least, size-most, head-long, free-there, free-inner, free-alone, inbox-inner, inbox-only, is-inbox, Relinked, alike-belongs, relinked-chains}
+use Rattle.chains.specs.Sound.{Sound, size-least, size-most, head-long}
+use Rattle.chains.specs.Relinked.{free-there, free-inner, free-alone, inbox-inner, inbox-only, is-inbox, Relinked, alike-belongs, relinked-chains}
 
 -- a message for a group of n, which its record can hold
 pub record Fits (n : ℕ) (e : Envelope) (rows : List Item) : Type 0 where
@@ -267,6 +268,14 @@ put-done rs g e rows fits some =
         done
 
 -- a sound store has a free record exactly if the first free one is not 0
+pub some-free : (rs : List (List ℕ)) → soundRecords rs ≡ true → 0 < freeCount rs → firstFree rs ≢ 0
+unfolding Leads
+some-free rs s h z = go (freeList rs) (sound-chains rs s .free-chain) (omega (arith, free-count rs s))
+  where
+    go : (l : List ℕ) → Leads rs (firstFree rs) l 0 → 0 < length l → ⊥
+    go [] p b = omega arith
+    go (x ∷ l) p b = p .1 (p .0 ∙ z)
+
 pub none-free : (rs : List (List ℕ)) → soundRecords rs ≡ true → freeCount rs ≡ 0 → firstFree rs ≡ 0
 none-free rs s e =
     by-same (firstFree rs) 0 (λ z. z)

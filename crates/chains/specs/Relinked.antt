@@ -1,62 +1,23 @@
 -- Records moved between the free chain and one inbox: what must hold of the changed records so that they stand on chains as
 -- before, but for those two.
-use Prim.Native.Nat.{ℕ, suc, _+_, _^_, _≤_, _<_}
+use Prim.Native.Nat.{ℕ, suc, _+_, _≤_, _<_}
 use mathlib.Core.Path.{_≡_, sym, ap, subst, _∙_}
 use mathlib.Core.Bool.{true}
 use mathlib.Core.Logic.{_≢_}
-use mathlib.Core.List.{List, [], _∷_}
+use mathlib.Core.List.{List}
 use native.Mathlib.Omega.{arith}
-use native.Mathlib.Nat.{not-suc-le-zero}
-use lib.Dec.{leb}
-use borrow.Author.Tests.{leb-true}
 use lib.ListN.{length}
-use Rattle.item.specs.Maxima.{maxNodes, validSize}
-use Rattle.item.specs.Tests.{and-left, and-right}
 use Rattle.endian.specs.PartLaws.{by-order}
-use Rattle.record.specs.Layout.{recordSize}
 use Rattle.record.specs.Record.{zeroAfterNext}
-use Rattle.store.specs.Records.{recordIn, recordsOf, rightLength}
+use Rattle.store.specs.Records.{recordIn}
 use Rattle.store.specs.Head.{firstFree, groupSize, firstOf}
 use Rattle.store.specs.Chain.{nextIn}
-use Rattle.store.specs.Sound.{addressedTo, belongsTo, soundRecords, soundStore}
+use Rattle.store.specs.Sound.{addressedTo, belongsTo}
 use Rattle.store.specs.Bytes.{Alike, alike-read}
-use Rattle.store.specs.Joined.{Sized, records-count, records-sized}
 use Rattle.chains.specs.Times.{times, timesOn, by-same, times-on-change, stands-on, stands-two, changed, changed-at, changed-other}
 use Rattle.chains.specs.Leads.{IsChain, leads-same}
 use Rattle.chains.specs.OnChains.{OnChains, standing, head-on-none, at-most-once, inbox-short}
 use Rattle.chains.specs.Inbox.{IsInbox}
-
--- ---- records as put and drop need them
-
--- sound, of the size of a record, and with numbers that two bytes can say
-pub record Sound (rs : List (List ℕ)) : Type 0 where
-  pub is-sound : soundRecords rs ≡ true
-  pub sized : Sized recordSize rs
-  pub few : length rs ≤ 256 ^ 2
-
--- those of a sound store are
-pub store-sound : (s : List ℕ) → soundStore s ≡ true → Sound (recordsOf s)
-unfolding soundStore
-store-sound s e =
-    record {
-      is-sound = and-right (rightLength s) (soundRecords (recordsOf s)) e;
-      sized = records-sized s (and-left (rightLength s) (soundRecords (recordsOf s)) e);
-      few = omega (arith, records-count s);
-    }
-
-pub size-least : (n : ℕ) → validSize n ≡ true → 3 ≤ n
-unfolding validSize
-size-least n v = leb-true 3 n (and-left (leb 3 n) _ v)
-
-pub size-most : (n : ℕ) → validSize n ≡ true → n ≤ maxNodes
-unfolding validSize
-size-most n v = leb-true n maxNodes (and-left (leb n maxNodes) _ (and-right (leb 3 n) _ v))
-
--- where there is a group there is a head
-pub head-long : (rs : List (List ℕ)) → Sized recordSize rs → 0 < groupSize rs → length (recordIn rs 0) ≡ recordSize
-unfolding Sized groupSize recordIn
-head-long [] s h = absurd (not-suc-le-zero h)
-head-long (r ∷ rs) s h = s 0 (omega arith)
 
 -- ---- a record that stands on one chain stands on no other
 

@@ -188,7 +188,7 @@ length-record-bytes n next e rows =
     simp (length-append, length-bytes, length-rows)
     (omega (arith, length-fields (fieldsOf e), length-padded maxNodes (take (rowsHeld (e .message) n) rows)))
 
-length-no-record : length noRecord ≡ recordSize
+pub length-no-record : length noRecord ≡ recordSize
 unfolding noRecord
 length-no-record = length-zeros recordSize
 

@@ -286,7 +286,7 @@ length-empty zero n = refl
 length-empty (suc left) n = ap suc (length-free-records left 1)
 
 -- a record of them is cleared but for its next
-free-record : (P : List ℕ → Type 0) → ((next : ℕ) → P (withNext noRecord next)) → (left i j : ℕ) → j < left → P (recordIn (freeRecords left i) j)
+pub free-record : (P : List ℕ → Type 0) → ((next : ℕ) → P (withNext noRecord next)) → (left i j : ℕ) → j < left → P (recordIn (freeRecords left i) j)
 unfolding freeRecords recordIn
 free-record P p zero i j h = absurd (not-suc-le-zero h)
 free-record P p (suc zero) i zero h = p 0
