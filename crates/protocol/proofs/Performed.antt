@@ -4,7 +4,7 @@ use Prim.Native.Nat.{ℕ, zero, suc, _+_, _<_, _≤_}
 use native.Mathlib.Omega.{arith}
 use mathlib.Core.Path.{_≡_, refl, sym, ap, subst, _∙_}
 use mathlib.Core.Logic.{_≢_, _⊎_, inl, inr}
-use mathlib.Core.Bool.{Bool, true, false, cond, _&&_, false≢true}
+use mathlib.Core.Bool.{Bool, true, false, _&&_}
 use mathlib.Core.List.{List, [], _∷_}
 use lib.Dec.{eqb, ltb}
 use lib.ListN.{length, getD}
@@ -12,35 +12,32 @@ use borrow.Author.Tests.{eqb-true, ltb-true}
 use Rattle.item.specs.Maxima.{maxNodes}
 use Rattle.item.specs.Tests.{by-cond, and-left, and-right}
 use Rattle.item.specs.declared.Item.{Item}
-use Rattle.item.specs.declared.Tag.{Tag}
 use Rattle.record.specs.Layout.{itemsIn, rowsOf}
 use Rattle.record.specs.Record.{readRecord}
 use Rattle.record.specs.declared.Reading.{Reading}
 use Rattle.record.specs.declared.Reading.the-variants.{Found, Fault}
 use Rattle.returns.specs.Change.{same}
-use Rattle.returns.specs.History.{Note, quiet, begins}
+use Rattle.returns.specs.History.{Note, quiet}
 use Rattle.returns.specs.View.{View}
 use Rattle.store.specs.Change.{dropIn}
 use Rattle.store.specs.Head.{groupSize}
 use Rattle.store.specs.Locality.{Reads, drop-local, drop-reads}
 use Rattle.store.specs.Records.{rightLength, recordsOf, joined, recordIn}
 use Rattle.store.specs.Sound.{soundRecords, messageIn}
-use Rattle.protocol.specs.Answer.{ok, refused}
 use Rattle.protocol.specs.Claim.{TagFits}
 use Rattle.protocol.specs.Deliver.{deliverStep}
-use Rattle.protocol.specs.Operation.{Result, perform, isRefused, carriedOut, atNode, dropped, delivered, onSound, onRecords}
-use Rattle.protocol.specs.Phase.{isUpIdle}
+use Rattle.protocol.specs.Operation.{perform, isRefused, carriedOut, atNode, dropped, delivered, onSound, onRecords}
 use Rattle.protocol.specs.Run.{deliveredBy, isOk}
 use Rattle.protocol.specs.Sound.{everyFrom, soundNode}
 use Rattle.protocol.specs.Table.{noNode, nodeAt, soundTable}
-use Rattle.protocol.specs.Write.{sendStore, writeAtLargest, writeStep, retryStep, crashStep, startStep}
+use Rattle.protocol.specs.Write.{writeStep, retryStep, crashStep, startStep}
 use Rattle.protocol.specs.declared.Answer.{Answer}
 use Rattle.protocol.specs.declared.Event.{Event}
 use Rattle.protocol.specs.declared.Event.the-variants as event
 use Rattle.protocol.specs.declared.Node.{Node}
 use Rattle.protocol.specs.declared.Refusal.the-variants.{StoreLength, Unsound, NoNode, NoMessage}
 use Rattle.protocol.specs.declared.Step.{Step}
-use Rattle.protocol.proofs.Calls.{write-tied, retry-tied, crash-tied, start-tied}
+use Rattle.protocol.proofs.Calls.{write-answers-ok, write-tied, retry-tied, crash-tied, start-tied}
 use Rattle.protocol.proofs.Delivery.{deliver-tied}
 use Rattle.protocol.proofs.Fitting.{NodeFits, StepFits, write-fits, retry-fits, crash-fits, start-fits}
 use Rattle.protocol.proofs.FittingDelivery.{deliver-fits}
@@ -84,15 +81,6 @@ items-length (suc m) r at = ap suc (items-length m r _)
 rows-length : (r : List ℕ) → length (rowsOf r) ≡ maxNodes
 unfolding rowsOf
 rows-length r = items-length maxNodes r _
-
--- a Write that is not refused answers "ok"
-write-ok : (node : Node) (tag : Tag) → isRefused (writeStep node tag .answer) ≡ false → isOk (writeStep node tag .answer) ≡ true
-unfolding writeStep sendStore refused ok isRefused isOk
-write-ok node tag =
-    by-cond (λ (s : Step). isRefused (s .answer) ≡ false → isOk (s .answer) ≡ true) (isUpIdle (node .phase)) _ _
-    (λ _. by-cond (λ (s : Step). isRefused (s .answer) ≡ false → isOk (s .answer) ≡ true) (writeAtLargest node) _ _
-    (λ _ e. absurd (false≢true (sym e))) (λ _ e. refl))
-    (λ _ e. absurd (false≢true (sym e)))
 
 module _ (f n x : ℕ) (odd : n ≡ suc (f + f)) (fits : n ≤ maxNodes) (x-below : x < n)
     (table : List Node) (store : List ℕ) (g : View) (S : Stands n x table store g) where
@@ -214,7 +202,7 @@ module _ (f n x : ℕ) (odd : n ≡ suc (f + f)) (fits : n ≤ maxNodes) (x-belo
         step-fits = deliver-fits node e items (S .fit k) (C .fits .1) (C .items-fit) (C .fits .0)
 
     on-sound : (e : Event) → TagFits e → Tells f n x g (told x e (deliveredBy e store)) (onSound e table store (recordsOf store))
-    unfolding onSound deliveredBy TagFits
+    unfolding onSound deliveredBy TagFits isOk
     on-sound (event.Write k tag) t =
         at-node (told x (event.Write k tag) Fault) (told-quiet x (event.Write k tag) Fault) (λ node. writeStep node tag) k
         (λ node N. write-fits node N tag t) (λ node s. write-shaped node tag s) begins-there
@@ -225,8 +213,8 @@ module _ (f n x : ℕ) (odd : n ≡ suc (f + f)) (fits : n ≤ maxNodes) (x-belo
         begins-there : InView f n x k g node → isRefused (writeStep node tag .answer) ≡ false
             → Tied f x g (told x (event.Write k tag) Fault (writeStep node tag .answer)) k k (writeStep node tag)
         begins-there w e =
-            subst (λ (b : Bool). Tied f x g (cond b (cond (eqb k x) (begins tag) quiet) quiet) k k (writeStep node tag))
-            (sym (write-ok node tag e)) (write-tied tag w e)
+            subst (λ (a : Answer). Tied f x g (told x (event.Write k tag) Fault a) k k (writeStep node tag))
+            (sym (write-answers-ok node tag e)) (write-tied tag w e)
     on-sound (event.Retry k) t = at-node (λ _. quiet) (λ _ _. refl) retryStep k retry-fits retry-shaped (λ w e. retry-tied w e)
     on-sound (event.Crash k) t = at-node (λ _. quiet) (λ _ _. refl) crashStep k crash-fits crash-shaped (λ w e. crash-tied w e)
     on-sound (event.Start k) t = at-node (λ _. quiet) (λ _ _. refl) startStep k start-fits start-shaped (λ w e. start-tied w e)

@@ -5,11 +5,10 @@ use mathlib.Core.Path.{_≡_, refl, sym, ap, subst, _∙_}
 use mathlib.Core.Bool.{true, _&&_}
 use mathlib.Core.List.{List, []}
 use lib.Dec.{eqb}
-use lib.ListN.{length, getD, length-replicate}
+use lib.ListN.{length, getD}
 use Rattle.item.specs.Maxima.{maxNodes, validSize}
 use Rattle.item.specs.Row.{zeroRow}
 use Rattle.item.specs.Tests.{by-cond, and-left}
-use Rattle.item.specs.declared.Incarnation.{Incarnation}
 use Rattle.item.specs.declared.Row.{Row}
 use Rattle.returns.specs.Returns.{SetUp}
 use Rattle.returns.specs.View.{View, ViewNode, clash}
@@ -18,7 +17,7 @@ use Rattle.store.specs.Head.{groupSize}
 use Rattle.store.specs.Joined.{records-joined, joined-right}
 use Rattle.store.specs.Locality.{length-empty, empty-sized, empty-size, empty-reads}
 use Rattle.store.specs.Records.{recordCount, rightLength, recordsOf, joined}
-use Rattle.protocol.specs.Node.{noPeer, blankNode, freshNode, rowOf, writeEnded}
+use Rattle.protocol.specs.Node.{blankNode, freshNode, rowOf, writeEnded}
 use Rattle.protocol.specs.Operation.{Result, setUp, refuse}
 use Rattle.protocol.specs.Table.{noNode, nodeAt, freshNodes, freshTable}
 use Rattle.protocol.specs.declared.Answer.the-variants as answer
@@ -27,6 +26,7 @@ use Rattle.protocol.proofs.Fitting.{NodeFits, getD-same, blank-fits, en
 use Rattle.protocol.proofs.Inbox.{no-fault}
 use Rattle.protocol.proofs.InView.{Shaped}
 use Rattle.protocol.proofs.Seen.{seen}
+use Rattle.protocol.proofs.Shapes.{fresh-shaped}
 use Rattle.protocol.proofs.Stands.{Mail, Stands}
 
 -- an accepted set-up: a valid group, all nodes fresh, all records free
@@ -57,27 +57,9 @@ pub each-node : (P : Node → Type 0) (n : ℕ) → ((k : ℕ) → P (freshNode 
 unfolding nodeAt freshTable
 each-node P n new old p = nodes-any P n new old 0 n p
 
-blank-shaped : (number n : ℕ) (i : Incarnation) → Shaped (blankNode number n i)
-unfolding blankNode
-blank-shaped number n i =
-    record {
-      rows-length = length-replicate maxNodes zeroRow;
-      counted-length = length-replicate maxNodes noPeer;
-      asked-length = length-replicate maxNodes noPeer;
-    }
-
-fresh-shaped : (k n : ℕ) → Shaped (freshNode k n)
-unfolding freshNode writeEnded blankNode
-fresh-shaped k n =
-    record {
-      rows-length = length-replicate maxNodes zeroRow;
-      counted-length = length-replicate maxNodes noPeer;
-      asked-length = length-replicate maxNodes noPeer;
-    }
-
 no-node-shaped : Shaped noNode
-unfolding noNode
-no-node-shaped = blank-shaped 0 0 (record { 0 = 0 })
+unfolding noNode blankNode
+no-node-shaped = record { rows-length = refl; counted-length = refl; asked-length = refl }
 
 fresh-fits : (k n : ℕ) → NodeFits (freshNode k n)
 unfolding freshNode
