@@ -11,3 +11,4 @@ pub mod Put
 pub mod PutEach
 pub mod Drop
 pub mod Empty
+pub mod Stores

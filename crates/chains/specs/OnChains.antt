@@ -175,3 +175,19 @@ pub chains-sound : {rs : List (List ℕ)} {free : List ℕ} {inbox : ℕ → Lis
     → OnChains rs free inbox → soundRecords rs ≡ true
 unfolding soundRecords
 chains-sound v z c = and-both v (and-both z (all-ok (chains-are c)))
+
+-- ---- the law in one
+
+-- "n is valid, the head is zero where said above", and the records stand on chains as said
+pub record StandSound (rs : List (List ℕ)) : Type 0 where
+  pub valid : validSize (groupSize rs) ≡ true
+  pub head : headZero rs ≡ true
+  pub free : List ℕ
+  pub inbox : ℕ → List ℕ
+  pub on-chains : OnChains rs free inbox
+
+pub sound-means : (rs : List (List ℕ)) → (soundRecords rs ≡ true → StandSound rs) × (StandSound rs → soundRecords rs ≡ true)
+sound-means rs = (
+  λ e. record { valid = sound-valid rs e; head = sound-head rs e; free = freeList rs; inbox = inboxList rs; on-chains = sound-chains rs e },
+  λ d. chains-sound (d .valid) (d .head) (d .on-chains),
+)

@@ -31,8 +31,8 @@ use Rattle.chains.specs.Inbox.{InboxChanged, IsInbox, appended-is}
 use Rattle.chains.specs.Sound.{Sound, size-least, size-most, head-long}
 use Rattle.chains.specs.Relinked.{free-there, free-inner, free-alone, inbox-inner, inbox-only, is-inbox, Relinked, alike-belongs, relinked-chains}
 
--- a message for a group of n, which its record can hold
-pub record Fits (n : ℕ) (e : Envelope) (rows : List Item) : Type 0 where
+-- a message from a node of a group of n to another, which its record can hold
+pub record ForGroup (n : ℕ) (e : Envelope) (rows : List Item) : Type 0 where
   pub from-group : e .sender < n
   pub to-group : e .addressee < n
   pub to-other : e .sender ≢ e .addressee
@@ -41,7 +41,7 @@ pub record Fits (n : ℕ) (e : Envelope) (rows : List Item) : Type 0 where
 -- ---- the records, with the lists of their chains
 
 module _ (rs : List (List ℕ)) (sized : Sized recordSize rs) (few : length rs ≤ 256 ^ 2) (valid : validSize (groupSize rs) ≡ true)
-    (e : Envelope) (rows : List Item) (fits : Fits (groupSize rs) e rows) (some : firstFree rs ≢ 0)
+    (e : Envelope) (rows : List Item) (fits : ForGroup (groupSize rs) e rows) (some : firstFree rs ≢ 0)
     (t : List ℕ) (inbox : ℕ → List ℕ) (c : OnChains rs (firstFree rs ∷ t) inbox) where
   abbrev f : ℕ
   f = firstFree rs
@@ -218,7 +218,7 @@ pub record PutDone (rs : List (List ℕ)) (e : Envelope) (rows : List Item) : Ty
   pub messages : (r : ℕ) → r ≢ firstFree rs → messageIn (putIn rs e rows) r ≡ messageIn rs r
   pub fewer : suc (freeCount (putIn rs e rows)) ≡ freeCount rs
 
-pub put-done : (rs : List (List ℕ)) → Sound rs → (e : Envelope) (rows : List Item) → Fits (groupSize rs) e rows → firstFree rs ≢ 0 → PutDone rs e rows
+pub put-done : (rs : List (List ℕ)) → Sound rs → (e : Envelope) (rows : List Item) → ForGroup (groupSize rs) e rows → firstFree rs ≢ 0 → PutDone rs e rows
 put-done rs g e rows fits some =
     record {
       sound = record { is-sound = sound′; sized = kept-all .sized (g .sized); few = omega (arith, kept-all .count, g .few) };

@@ -10,11 +10,11 @@ use Rattle.store.specs.Head.{groupSize}
 use Rattle.store.specs.Sound.{freeCount}
 use Rattle.store.specs.Change.{putIn, putEach, countOutgoing}
 use Rattle.chains.specs.Sound.{Sound}
-use Rattle.chains.specs.Put.{Fits, PutDone, put-done, some-free}
+use Rattle.chains.specs.Put.{ForGroup, PutDone, put-done, some-free}
 
--- every message that is present fits
-unfoldable pub AllFit : ℕ → List Outgoing → List Item → Type 0
-AllFit n os rows = (o : Outgoing) → List·Memᴰ o os → o .present ≡ true → Fits n (o .envelope) rows
+-- every message that is present is for the group
+unfoldable pub AllForGroup : ℕ → List Outgoing → List Item → Type 0
+AllForGroup n os rows = (o : Outgoing) → List·Memᴰ o os → o .present ≡ true → ForGroup n (o .envelope) rows
 
 -- the records are sound, and `taken` fewer of them are free
 pub record EachDone (rs rs′ : List (List ℕ)) (taken : ℕ) : Type 0 where
@@ -22,19 +22,19 @@ pub record EachDone (rs rs′ : List (List ℕ)) (taken : ℕ) : Type 0 where
   pub size : groupSize rs′ ≡ groupSize rs
   pub fewer : taken + freeCount rs′ ≡ freeCount rs
 
-pub put-each-done : (os : List Outgoing) (rs : List (List ℕ)) (rows : List Item) → Sound rs → AllFit (groupSize rs) os rows → countOutgoing os ≤ freeCount rs
+pub put-each-done : (os : List Outgoing) (rs : List (List ℕ)) (rows : List Item) → Sound rs → AllForGroup (groupSize rs) os rows → countOutgoing os ≤ freeCount rs
     → EachDone rs (putEach rs os rows) (countOutgoing os)
-unfolding putEach countOutgoing AllFit
+unfolding putEach countOutgoing AllForGroup
 put-each-done [] rs rows g fit h = record { sound = g; size = refl; fewer = omega arith }
 put-each-done (o ∷ os) rs rows g fit h = step (λ rs′ g′ fit′ h′. put-each-done os rs′ rows g′ fit′ h′) (o .present) refl h
   where
-    step : ((rs′ : List (List ℕ)) → Sound rs′ → AllFit (groupSize rs′) os rows → countOutgoing os ≤ freeCount rs′ → EachDone rs′ (putEach rs′ os rows) (countOutgoing os))
+    step : ((rs′ : List (List ℕ)) → Sound rs′ → AllForGroup (groupSize rs′) os rows → countOutgoing os ≤ freeCount rs′ → EachDone rs′ (putEach rs′ os rows) (countOutgoing os))
         → (p : Bool) → o .present ≡ p → cond p (suc (countOutgoing os)) (countOutgoing os) ≤ freeCount rs
         → EachDone rs (putEach (cond p (putIn rs (o .envelope) rows) rs) os rows) (cond p (suc (countOutgoing os)) (countOutgoing os))
     step rest true p b =
         let d : PutDone rs (o .envelope) rows = put-done rs g (o .envelope) rows (fit o (List·Memᴰ·head refl) p) (some-free rs (g .is-sound) (omega arith)) in
         let r : EachDone (putIn rs (o .envelope) rows) (putEach (putIn rs (o .envelope) rows) os rows) (countOutgoing os) =
         rest (putIn rs (o .envelope) rows) (d .sound)
-        (λ q m z. subst (λ (n : ℕ). Fits n (q .envelope) rows) (sym (d .size)) (fit q (List·Memᴰ·tail m) z)) (omega (arith, d .fewer)) in
+        (λ q m z. subst (λ (n : ℕ). ForGroup n (q .envelope) rows) (sym (d .size)) (fit q (List·Memᴰ·tail m) z)) (omega (arith, d .fewer)) in
         record { sound = r .sound; size = r .size ∙ d .size; fewer = omega (arith, r .fewer, d .fewer) }
     step rest false p b = rest rs g (λ q m z. fit q (List·Memᴰ·tail m) z) b

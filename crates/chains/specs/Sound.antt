@@ -23,13 +23,17 @@ pub record Sound (rs : List (List ℕ)) : Type 0 where
   pub sized : Sized recordSize rs
   pub few : length rs ≤ 256 ^ 2
 
+pub store-right : (s : List ℕ) → soundStore s ≡ true → rightLength s ≡ true
+unfolding soundStore
+store-right s e = and-left (rightLength s) (soundRecords (recordsOf s)) e
+
 -- those of a sound store are
 pub store-sound : (s : List ℕ) → soundStore s ≡ true → Sound (recordsOf s)
 unfolding soundStore
 store-sound s e =
     record {
       is-sound = and-right (rightLength s) (soundRecords (recordsOf s)) e;
-      sized = records-sized s (and-left (rightLength s) (soundRecords (recordsOf s)) e);
+      sized = records-sized s (store-right s e);
       few = omega (arith, records-count s);
     }
 

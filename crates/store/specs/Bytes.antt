@@ -10,7 +10,7 @@ use lib.Dec.{eqb}
 use borrow.Author.Tests.{eq-eqb}
 use lib.ListN.{length, take, drop, getD, length-drop, List·getD-eq-default}
 use lib.Seq.{drop-cons, drop-drop, getD-drop, ext-getD}
-use Rattle.item.specs.Maxima.{maxNodes}
+use Rattle.item.specs.Maxima.{maxNodes, tagSize}
 use Rattle.item.specs.Tests.{by-cond, and-both}
 use Rattle.item.specs.declared.Item.{Item}
 use Rattle.endian.specs.Part.{part, whole}
@@ -91,7 +91,7 @@ module _ {r q : List ℕ} (a : Alike r q) where
   unfolding itemIn
   alike-item at h =
       let i = alike-number indexSize at h in
-      let t = alike-number 8 (at + indexSize) (omega arith) in
+      let t = alike-number tagSize (at + indexSize) (omega arith) in
       λ j. record { index = record { 0 = i j }; tag = record { 0 = t j } }
 
   alike-items : (m at : ℕ) → kindAt ≤ at → itemsIn m r at ≡ itemsIn m q at
