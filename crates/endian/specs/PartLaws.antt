@@ -6,12 +6,12 @@ use mathlib.Core.Bool.{Bool, true, false, not}
 use mathlib.Core.Logic.{_⊎_, ⊎-elim}
 use mathlib.Core.List.{List, [], _∷_, _++_, append-assoc}
 use native.Mathlib.Omega.{arith}
-use native.Mathlib.Nat.{suc-add, zero-add, lt-of-not-le}
+use native.Mathlib.Nat.{suc-add, zero-add, add-zero, lt-of-not-le}
 use native.Mathlib.Decide.{decLe}
 use lib.Dec.{leb}
 use borrow.Author.Tests.{eq-eqb, ne-eqb, le-leb, lt-leb, leb-true, leb-false, not-true, not-false}
 use borrow.Rule.Slice.PartMut.{putMid}
-use lib.ListN.{length, take, drop, length-append, length-take, length-drop}
+use lib.ListN.{length, take, drop, length-append, length-take, length-drop, take-append-drop}
 use lib.Seq.{length-take-le, take-at, drop-at, take-append-le, take-take, drop-drop, take-all, take-nil, sets, sets-eq}
 use Rattle.endian.specs.Part.{whole, part, withPart}
 
@@ -31,6 +31,12 @@ module _ (w : ℕ) (s : List ℕ) (at : ℕ) where
   pub part-is : at + w ≤ length s → part w s at ≡ take w (drop at s)
   unfolding part whole
   part-is h = rw (eq-eqb (length (take w (drop at s))) w (length-middle h))
+
+  -- a part that is lent
+  pub lent : at + w ≤ length s → take (at + w - at) (drop at s) ≡ part w s at
+  lent h =
+      let e : at + w - at ≡ w = omega arith in
+      rw e (sym (part-is h))
 
   pub length-part : at + w ≤ length s → length (part w s at) ≡ w
   length-part h = rw part-is (length-middle h)
@@ -136,6 +142,13 @@ with-joined a b s at x y lx ly h =
 pub sets-is : (vs s : List ℕ) (at : ℕ) → at + length vs ≤ length s → sets s at vs ≡ withPart (length vs) s at vs
 sets-is vs s at h =
     sets-eq vs s at h ∙ append-assoc (take at s) vs (drop (at + length vs) s) ∙ sym (with-is (length vs) s at vs h)
+
+-- nothing, written anywhere
+pub with-nothing : (s : List ℕ) (at : ℕ) → withPart 0 s at [] ≡ s
+with-nothing s at =
+    by-order (at + 0) (length s)
+    (λ h. with-is 0 s at [] h ∙ ap (λ (k : ℕ). take at s ++ drop k s) (add-zero at) ∙ take-append-drop at s)
+    (λ h. with-none 0 s at [] h)
 
 -- a list of w elements, written whole
 pub with-all : (w : ℕ) (s l : List ℕ) → length s ≡ w → length l ≡ w → withPart w s 0 l ≡ l

@@ -73,18 +73,21 @@ itemOf (Confirmed other attempt item) = item
 itemOf Fetch = zeroItem
 itemOf (Table other) = zeroItem
 
--- every number of a record but next and the rows
-unfoldable pub fieldsOf : Envelope → Fields
-fieldsOf e =
+-- every number of a record but next and the rows, with these where kinds differ
+abbrev pub filled : Envelope → ℕ → Incarnation → Attempt → Item → Fields
+filled e kind other attempt item =
     record {
-      kind = kindOf (e .message);
+      kind = kind;
       sender = e .sender;
       addressee = e .addressee;
       incarnation = e .incarnation;
-      other = otherOf (e .message);
-      attempt = attemptOf (e .message);
-      item = itemOf (e .message);
+      other = other;
+      attempt = attempt;
+      item = item;
     }
+
+unfoldable pub fieldsOf : Envelope → Fields
+fieldsOf e = filled e (kindOf (e .message)) (otherOf (e .message)) (attemptOf (e .message)) (itemOf (e .message))
 
 -- "Only Table has rows: n of them"
 unfoldable pub rowsHeld : Message → ℕ → ℕ
@@ -95,12 +98,9 @@ rowsHeld (Confirmed other attempt item) n = 0
 rowsHeld Fetch n = 0
 rowsHeld (Table other) n = min n maxNodes
 
--- the fields say no other incarnation, no attempt and no item
-abbrev pub noOther : Fields → Bool
-noOther f = sameIncarnation (f .other) noIncarnation
-
-abbrev pub noWrite : Fields → Bool
-noWrite f = sameAttempt (f .attempt) noAttempt && sameItem (f .item) zeroItem
+-- neither attempt nor item
+unfoldable pub noWrite : Attempt → Item → Bool
+noWrite attempt item = sameAttempt attempt noAttempt && sameItem item zeroItem
 
 abbrev pub knownIf : Bool → Message → Known
 knownIf t m = cond t (known.Known m) known.Unknown
@@ -109,10 +109,10 @@ knownIf t m = cond t (known.Known m) known.Unknown
 -- above 6 are no message either.
 unfoldable pub messageOf : Fields → Known
 messageOf f =
-    cond (eqb (f .kind) storeKind) (knownIf (noOther f) (Store (f .attempt) (f .item)))
+    cond (eqb (f .kind) storeKind) (knownIf (sameIncarnation (f .other) noIncarnation) (Store (f .attempt) (f .item)))
     (cond (eqb (f .kind) storedKind) (known.Known (Stored (f .other) (f .attempt) (f .item)))
     (cond (eqb (f .kind) confirmKind) (known.Known (Confirm (f .other) (f .attempt) (f .item)))
     (cond (eqb (f .kind) confirmedKind) (known.Known (Confirmed (f .other) (f .attempt) (f .item)))
-    (cond (eqb (f .kind) fetchKind) (knownIf (noOther f && noWrite f) Fetch)
-    (cond (eqb (f .kind) tableKind) (knownIf (noWrite f) (Table (f .other)))
+    (cond (eqb (f .kind) fetchKind) (knownIf (sameIncarnation (f .other) noIncarnation && noWrite (f .attempt) (f .item)) Fetch)
+    (cond (eqb (f .kind) tableKind) (knownIf (noWrite (f .attempt) (f .item)) (Table (f .other)))
     known.Unknown)))))

@@ -2,7 +2,7 @@
 --   "0-1 next; 2 kind; 3 sender × 16 + addressee
 --    4-7 sender's incarnation; 8-11 other incarnation; 12-15 attempt
 --    16-23 index; 24-31 tag; 32-271 fifteen rows of index and tag"
-use Prim.Native.Nat.{ℕ, zero, suc, _+_, _*_, _/_, _%_}
+use Prim.Native.Nat.{ℕ, zero, suc, _+_, _-_, _*_, _/_, _%_}
 use mathlib.Core.List.{List, [], _∷_, _++_}
 use lib.ListN.{getD}
 use Rattle.item.specs.Maxima.{maxNodes, tagSize}
@@ -58,6 +58,9 @@ unfoldable pub addressByte : ℕ → ℕ → ℕ
 addressByte sender addressee = sender % 16 * 16 + addressee % 16
 
 -- from the kind up to the rows
+abbrev pub fieldsSize : ℕ
+fieldsSize = rowsAt - kindAt
+
 unfoldable pub fieldBytes : Fields → List ℕ
 fieldBytes f =
     f .kind ∷ addressByte (f .sender) (f .addressee) ∷

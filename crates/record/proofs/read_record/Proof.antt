@@ -1,0 +1,69 @@
+-- `record::read_record` meets its contract: the message of the fields, unless a byte after its rows is not 0.
+use Prim.Native.Nat.{ℕ, _*_, _+_}
+use lib.ListN.{length, drop}
+use native.Mathlib.Omega.{arith}
+use mathlib.Core.Path.{_≡_, refl, sym, ap, _∙_}
+use denote.Ref.{now}
+use Rattle.endian.specs.Zero.{allZero}
+use Rattle.item.specs.Tests.{refuted, granted}
+use borrow.Author.Tests.{eq-eqb}
+use Rattle.record.specs.Layout.{fieldsIn}
+use Rattle.record.specs.KindLaws.{rows-held-most}
+use Rattle.record.specs.Kind.{messageOf, rowsHeld}
+use Rattle.record.specs.RecordLaws.{read-found}
+use Rattle.record.specs.Record.{readRecord, readAs, zeroAfterRows}
+use borrow.Author.Needs.{needs}
+use Rattle.record.proofs.read_record.Statement.{statement}
+use Rattle.record.proofs.read_record.Tie as tie
+
+read-fields-requires : tie.Need-read-fields-requires
+read-fields-requires c κs = search needs
+
+message-of-requires : tie.Need-message-of-requires
+message-of-requires c κs = search needs
+
+enum-known-message : tie.Need-enum-known-message
+enum-known-message c = search needs
+
+enum-told : tie.Need-enum-told
+enum-told c = search needs
+
+returns : tie.Need-returns
+unfolding readRecord readAs
+returns c = let a = c .before .before .before .before .before in rw (eq-eqb (length (now (a .args .r))) 272 (a .pre), ← c .before .before .before .read-fields .ensures, ← c .before .before .message-of .ensures, c .enum-told .given .1)
+
+rows-held-requires : tie.Need-rows-held-requires
+rows-held-requires c κs = search needs
+
+mul-from : tie.Need-mul-from
+mul-from c = omega (arith, c .rows-held .ensures, rows-held-most (c .before .before .message .given .0 .0) (c .before .before .before .before .before .before .before .args .n))
+
+add-from : tie.Need-add-from
+add-from c = omega (arith, c .rows-held .ensures, rows-held-most (c .before .before .message .given .0 .0) (c .before .before .before .before .before .before .before .args .n))
+
+zero-from-requires : tie.Need-zero-from-requires
+zero-from-requires c κs = omega (arith, c .rows-held .ensures, rows-held-most (c .before .before .message .given .0 .0) (c .before .before .before .before .before .before .before .args .n), c .before .before .before .before .before .before .before .pre)
+
+returns-2 : tie.Need-returns-2
+unfolding readRecord readAs zeroAfterRows
+returns-2 c = let a = c .before .before .before .before .before .before .before .before .before in rw (eq-eqb (length (now (a .args .r))) 272 (a .pre), ← c .before .before .before .before .before .before .before .read-fields .ensures, ← c .before .before .before .before .before .before .message-of .ensures, c .before .before .before .before .message .given .1, ← c .before .before .rows-held .ensures, refuted (c .before .zero-from .ensures) (c .if1 .taken))
+
+returns-3 : tie.Need-returns-3
+unfolding zeroAfterRows
+returns-3 c = let a = c .before .before .before .before .before .before .before .before .before .before in let z = granted (c .before .before .zero-from .ensures) (c .before .if1 .left) in sym (read-found (a .args .n) (now (a .args .r)) (c .before .before .before .before .before .before .before .before .read-fields .result) (c .before .before .before .before .before .message .given .0 .0) (a .pre) (c .before .before .before .before .before .before .before .before .read-fields .ensures) (sym (c .before .before .before .before .before .before .before .message-of .ensures) ∙ c .before .before .before .before .before .message .given .1) (rw (← c .before .before .before .rows-held .ensures) z))
+
+pub read-record-spec : {M : Type 1} → statement M
+read-record-spec =
+    tie.close
+    (tie.spec
+    read-fields-requires
+    message-of-requires
+    enum-known-message
+    enum-told
+    returns
+    rows-held-requires
+    mul-from
+    add-from
+    zero-from-requires
+    returns-2
+    returns-3)

@@ -1,0 +1,170 @@
+-- Laws of the layout: how long each group of bytes is, and that groups written one after the other are one.
+use Prim.Native.Nat.{ℕ, zero, suc, _+_, _-_, _*_, _%_, _^_, _≤_, _<_, min}
+use mathlib.Core.Path.{_≡_, refl, sym, ap, _∙_}
+use mathlib.Core.List.{List, [], _∷_, _++_, append-assoc, append-nil}
+use native.Mathlib.Omega.{arith}
+use native.Mathlib.Numerals.{add-one}
+use native.Mathlib.Nat.{suc-mul, zero-mul, not-suc-le-zero, le-of-suc-le-suc}
+use lib.ListN.{length, take, drop, getD, set, length-append}
+use lib.Seq.{length-take-le}
+use borrow.Rule.Slice.PartMut.{putMid}
+use Rattle.item.specs.Maxima.{maxNodes, tagSize}
+use Rattle.item.specs.Item.{zeroItem}
+use Rattle.item.specs.declared.Item.{Item}
+use Rattle.endian.specs.Part.{part, withPart}
+use Rattle.endian.specs.PartLaws.{part-none, length-part, lent, put-back, with-none, with-joined, with-all, sets-is}
+use Rattle.endian.specs.Number.{bytes, withNumber}
+use Rattle.endian.specs.NumberLaws.{length-bytes}
+use Rattle.record.specs.declared.kind.Fields.{Fields}
+use Rattle.record.specs.Chunk.{chunk, withChunk}
+use Rattle.record.specs.Layout.{recordSize, kindAt, addressAt, incarnationAt, otherAt, attemptAt, itemAt, rowsAt, indexSize, rowSize, fieldsSize, itemBytes, addressByte, fieldBytes, rowsBytes, padded, itemIn, itemsIn, rowsOf, recordOf, withRecord}
+
+-- the last row ends where the record does
+pub rows-fill : rowsAt + maxNodes * rowSize ≡ recordSize
+rows-fill = refl
+
+pub length-item : (i : Item) → length (itemBytes i) ≡ rowSize
+unfolding itemBytes
+length-item i = simp (length-append, length-bytes)
+
+pub length-fields : (f : Fields) → length (fieldBytes f) ≡ fieldsSize
+unfolding fieldBytes
+length-fields f = simp (length-append, length-bytes, length-item)
+
+pub length-rows : (items : List Item) → length (rowsBytes items) ≡ length items * rowSize
+unfolding rowsBytes
+length-rows [] = refl
+length-rows (i ∷ items) = simp (length-append, length-item, length-rows items, suc-mul) (omega arith)
+
+pub length-padded : (m : ℕ) (items : List Item) → length (padded m items) ≡ m
+unfolding padded
+length-padded zero items = refl
+length-padded (suc m) [] = ap suc (length-padded m [])
+length-padded (suc m) (i ∷ items) = ap suc (length-padded m items)
+
+-- ---- the writer
+
+-- an index and then a tag are an item
+pub with-item : (r : List ℕ) (at : ℕ) (i : Item) → at + rowSize ≤ length r
+    → withNumber tagSize (withNumber indexSize r at (i .index .0)) (at + indexSize) (i .tag .0) ≡ withPart rowSize r at (itemBytes i)
+unfolding withNumber itemBytes
+with-item r at i h =
+    with-joined indexSize tagSize r at (bytes indexSize (i .index .0)) (bytes tagSize (i .tag .0)) (length-bytes indexSize (i .index .0)) (length-bytes tagSize (i .tag .0)) h
+
+-- the fields, one after the other
+pub with-fields : (r : List ℕ) (f : Fields) → length r ≡ recordSize
+    → withPart rowSize
+    (withNumber 4 (withNumber 4 (withNumber 4 (set (set r kindAt (f .kind)) addressAt (addressByte (f .sender) (f .addressee)))
+    incarnationAt (f .incarnation .0)) otherAt (f .other .0)) attemptAt (f .attempt .0))
+    itemAt (itemBytes (f .item))
+    ≡ withPart fieldsSize r kindAt (fieldBytes f)
+unfolding withNumber fieldBytes
+with-fields r f h =
+    let x : List ℕ = f .kind ∷ addressByte (f .sender) (f .addressee) ∷ [] in
+    let y₁ : List ℕ = bytes 4 (f .incarnation .0) in
+    let y₂ : List ℕ = bytes 4 (f .other .0) in
+    let y₃ : List ℕ = bytes 4 (f .attempt .0) in
+    let l₁ : length (x ++ y₁) ≡ 6 = ap (λ (n : ℕ). suc (suc n)) (length-bytes 4 (f .incarnation .0)) in
+    let l₂ : length ((x ++ y₁) ++ y₂) ≡ 10 = length-append (x ++ y₁) y₂ ∙ (λ i. l₁ i + length-bytes 4 (f .other .0) i) in
+    let l₃ : length (((x ++ y₁) ++ y₂) ++ y₃) ≡ 14 = length-append ((x ++ y₁) ++ y₂) y₃ ∙ (λ i. l₂ i + length-bytes 4 (f .attempt .0) i) in
+    rw (sets-is x r kindAt (omega arith)) (
+    rw (with-joined 2 4 r kindAt x y₁ refl (length-bytes 4 (f .incarnation .0)) (omega arith)) (
+    rw (with-joined 6 4 r kindAt (x ++ y₁) y₂ l₁ (length-bytes 4 (f .other .0)) (omega arith)) (
+    rw (with-joined 10 4 r kindAt ((x ++ y₁) ++ y₂) y₃ l₂ (length-bytes 4 (f .attempt .0)) (omega arith)) (
+    rw (with-joined 14 rowSize r kindAt (((x ++ y₁) ++ y₂) ++ y₃) (itemBytes (f .item)) l₃ (length-item (f .item)) (omega arith))
+    (ap (withPart fieldsSize r kindAt) (simp append-assoc))))))
+
+-- one row more, as a loop over them goes
+pub rows-more : (items : List Item) (j : ℕ) → j < length items
+    → rowsBytes (take (suc j) items) ≡ rowsBytes (take j items) ++ itemBytes (getD items j zeroItem)
+unfolding rowsBytes
+rows-more [] j h = absurd (not-suc-le-zero h)
+rows-more (i ∷ items) zero h = append-nil (itemBytes i)
+rows-more (i ∷ items) (suc j) h =
+    ap (λ (l : List ℕ). itemBytes i ++ l) (rows-more items j (le-of-suc-le-suc h))
+    ∙ sym (append-assoc (itemBytes i) (rowsBytes (take j items)) (itemBytes (getD items j zeroItem)))
+
+pub with-rows-more : (r : List ℕ) (items : List Item) (j : ℕ) → length r ≡ recordSize → length items ≡ maxNodes → j < maxNodes
+    → withPart rowSize (withPart (j * rowSize) r rowsAt (rowsBytes (take j items))) (rowsAt + j * rowSize) (itemBytes (getD items j zeroItem))
+    ≡ withPart ((j + 1) * rowSize) r rowsAt (rowsBytes (take (j + 1) items))
+with-rows-more r items j hr hi h =
+    let lj : length (rowsBytes (take j items)) ≡ j * rowSize = length-rows (take j items) ∙ ap (λ (n : ℕ). n * rowSize) (length-take-le j items (omega arith)) in
+    let e : (j + 1) * rowSize ≡ j * rowSize + rowSize = omega arith in
+    with-joined (j * rowSize) rowSize r rowsAt (rowsBytes (take j items)) (itemBytes (getD items j zeroItem)) lj (length-item (getD items j zeroItem)) (omega arith)
+    ∙ rw (e, add-one j, rows-more items j (omega arith))
+
+-- next, fields and rows are the whole record
+pub with-record-groups : (r : List ℕ) (next : ℕ) (f : Fields) (items : List Item) → length r ≡ recordSize → length items ≡ maxNodes
+    → withPart (maxNodes * rowSize) (withPart fieldsSize (withNumber 2 r 0 next) kindAt (fieldBytes f)) rowsAt (rowsBytes items)
+    ≡ bytes 2 next ++ (fieldBytes f ++ rowsBytes items)
+unfolding withNumber
+with-record-groups r next f items hr hi =
+    let lr : length (rowsBytes items) ≡ 240 = length-rows items ∙ ap (λ (n : ℕ). n * rowSize) hi in
+    let l₁ : length (bytes 2 next ++ fieldBytes f) ≡ 32 = length-append (bytes 2 next) (fieldBytes f) ∙ (λ i. length-bytes 2 next i + length-fields f i) in
+    let l : length ((bytes 2 next ++ fieldBytes f) ++ rowsBytes items) ≡ 272 = length-append (bytes 2 next ++ fieldBytes f) (rowsBytes items) ∙ (λ i. l₁ i + lr i) in
+    rw (with-joined 2 fieldsSize r 0 (bytes 2 next) (fieldBytes f) (length-bytes 2 next) (length-fields f) (omega arith)) (
+    rw (with-joined 32 240 r 0 (bytes 2 next ++ fieldBytes f) (rowsBytes items) l₁ lr (omega arith))
+    (with-all 272 r ((bytes 2 next ++ fieldBytes f) ++ rowsBytes items) hr l ∙ append-assoc (bytes 2 next) (fieldBytes f) (rowsBytes items)))
+
+-- ---- padding
+
+pub padded-all : (items : List Item) → padded (length items) items ≡ items
+unfolding padded
+padded-all [] = refl
+padded-all (i ∷ items) = ap (λ (l : List Item). i ∷ l) (padded-all items)
+
+-- past the list there is one zero item more
+pub padded-more : (j : ℕ) (items : List Item) → length items ≤ j → padded (suc j) items ≡ padded j items ++ (zeroItem ∷ [])
+unfolding padded
+padded-more zero [] h = refl
+padded-more zero (i ∷ items) h = absurd (not-suc-le-zero h)
+padded-more (suc j) [] h = ap (λ (l : List Item). zeroItem ∷ l) (padded-more j [] (omega arith))
+padded-more (suc j) (i ∷ items) h = ap (λ (l : List Item). i ∷ l) (padded-more j items (le-of-suc-le-suc h))
+
+pub getD-padded : (m : ℕ) (items : List Item) (i : ℕ) → i < m → getD (padded m items) i zeroItem ≡ getD items i zeroItem
+unfolding padded
+getD-padded zero items i h = absurd (not-suc-le-zero h)
+getD-padded (suc m) [] zero h = refl
+getD-padded (suc m) [] (suc i) h = getD-padded m [] i (le-of-suc-le-suc h)
+getD-padded (suc m) (x ∷ items) zero h = refl
+getD-padded (suc m) (x ∷ items) (suc i) h = getD-padded m items i (le-of-suc-le-suc h)
+
+-- ---- the reader
+
+pub length-items : (m : ℕ) (r : List ℕ) (at : ℕ) → length (itemsIn m r at) ≡ m
+unfolding itemsIn
+length-items zero r at = refl
+length-items (suc m) r at = ap suc (length-items m r (at + rowSize))
+
+pub getD-items : (m : ℕ) (r : List ℕ) (at j : ℕ) → j < m → getD (itemsIn m r at) j zeroItem ≡ itemIn r (at + j * rowSize)
+unfolding itemsIn
+getD-items zero r at j h = absurd (not-suc-le-zero h)
+getD-items (suc m) r at zero h = ap (itemIn r) (omega arith)
+getD-items (suc m) r at (suc j) h = getD-items m r (at + rowSize) j (le-of-suc-le-suc h) ∙ ap (itemIn r) (omega arith)
+
+-- ---- the records of a store
+
+module _ (s : List ℕ) (i : ℕ) where
+  pub record-none : length s < i * recordSize + recordSize → recordOf s i ≡ []
+  unfolding recordOf chunk
+  record-none h = part-none recordSize s (i * recordSize) h
+
+  pub length-record-of : i * recordSize + recordSize ≤ length s → length (recordOf s i) ≡ recordSize
+  unfolding recordOf chunk
+  length-record-of h = length-part recordSize s (i * recordSize) h
+
+  -- the record as code lends it
+  pub record-lent : i * recordSize + recordSize ≤ length s
+      → take (i * recordSize + recordSize - i * recordSize) (drop (i * recordSize) s) ≡ recordOf s i
+  unfolding recordOf chunk
+  record-lent h = lent recordSize s (i * recordSize) h
+
+  -- and has it back as r
+  pub record-back : (r : List ℕ) → i * recordSize + recordSize ≤ length s
+      → putMid (i * recordSize) (i * recordSize + recordSize - i * recordSize) s r ≡ withRecord s i r
+  unfolding withRecord withChunk
+  record-back r h = put-back recordSize s (i * recordSize) r h
+
+  pub with-record-none : (r : List ℕ) → length s < i * recordSize + recordSize → withRecord s i r ≡ s
+  unfolding withRecord withChunk
+  with-record-none r h = with-none recordSize s (i * recordSize) r h
