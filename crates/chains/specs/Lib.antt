@@ -1,0 +1,4 @@
+pub mod Times
+pub mod Leads
+pub mod Walk
+pub mod OnChains
