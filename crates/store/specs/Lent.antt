@@ -8,7 +8,7 @@ use mathlib.Core.List.{List, [], _∷_, _++_}
 use native.Mathlib.Omega.{arith}
 use borrow.Author.Tests.{eq-eqb, ne-eqb}
 use lib.Dec.{eqb}
-use lib.ListN.{length, take, drop, getD, set, length-drop, drop-of-length-le, take-append-drop, List·getD-eq-default}
+use lib.ListN.{length, take, drop, getD, set, length-set, length-drop, drop-of-length-le, take-append-drop, List·getD-eq-default}
 use lib.Seq.{getD-take, take-take, set-out, set-append-left, length-take-le, take-all, drop-drop}
 use Rattle.endian.specs.Part.{part, whole, withPart}
 use Rattle.endian.specs.PartLaws.{by-order, take-of-drop, part-is, with-is, with-none}
@@ -56,6 +56,12 @@ module _ (s : List ℕ) (long : length s ≡ recordCount * recordSize) where
   records-number i at v =
       records-with i (withNumber 2 (recordOf s i) at v) (λ h. length-with-number 2 (recordOf s i) at v ∙ length-in i h)
       ∙ ap (λ (r : List ℕ). set (recordsOf s) i (withNumber 2 r at v)) (sym (record-in i))
+
+  -- a byte of the head written
+  pub records-byte : (at v : ℕ) → recordsOf (withRecord s 0 (set (recordOf s 0) at v)) ≡ set (recordsOf s) 0 (set (recordIn (recordsOf s) 0) at v)
+  records-byte at v =
+      records-with 0 (set (recordOf s 0) at v) (λ h. length-set (recordOf s 0) at v ∙ length-in 0 h)
+      ∙ ap (λ (r : List ℕ). set (recordsOf s) 0 (set r at v)) (sym (record-in 0))
 
   pub records-next : (i next : ℕ) → recordsOf (withRecord s i (withNext (recordOf s i) next)) ≡ withNextIn (recordsOf s) i next
   unfolding withNext withNextIn
@@ -134,12 +140,16 @@ pub with-low : (r : List ℕ) (at v : ℕ) → withNumber 2 r at (v % 65536) ≡
 unfolding withNumber
 with-low r at v = ap (withPart 2 r at) (bytes-low 2 v)
 
+pub next-low : (r : List ℕ) (v : ℕ) → withNext r (v % 65536) ≡ withNext r v
+unfolding withNext
+next-low r v = with-low r 0 v
+
 -- ---- a change of the records, made in the bytes
 
-pub changed : (change : List (List ℕ) → List (List ℕ)) (s s′ : List ℕ) → length s ≡ recordCount * recordSize → length s′ ≡ recordCount * recordSize
-    → recordsOf s′ ≡ change (recordsOf s) → s′ ≡ onRecords change s
+pub changed : (change : List (List ℕ) → List (List ℕ)) (s s′ : List ℕ) → recordsOf s′ ≡ change (recordsOf s)
+    → length s ≡ recordCount * recordSize → length s′ ≡ recordCount * recordSize → s′ ≡ onRecords change s
 unfolding onRecords
-changed change s s′ l l′ e = sym (rw (right s l, ← e) (joined-records s′ (right s′ l′)))
+changed change s s′ e l l′ = sym (rw (right s l, ← e) (joined-records s′ (right s′ l′)))
 
 pub unchanged : (change : List (List ℕ) → List (List ℕ)) (s : List ℕ) → length s ≢ recordCount * recordSize → s ≡ onRecords change s
 unfolding onRecords rightLength
