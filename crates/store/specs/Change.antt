@@ -75,3 +75,7 @@ emptyHead n = set (withNumber 2 noRecord nextAt 1) sizeAt n
 unfoldable pub emptyRecords : ℕ → ℕ → List (List ℕ)
 emptyRecords zero n = []
 emptyRecords (suc left) n = emptyHead n ∷ freeRecords left 1
+
+-- Set up, as a change of bytes; n stands in one byte
+unfoldable pub setUp : ℕ → List ℕ → List ℕ
+setUp n s = onRecords (λ _. emptyRecords recordCount (n % 256)) s

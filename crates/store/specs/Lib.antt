@@ -6,3 +6,4 @@ pub mod Change
 pub mod Bytes
 pub mod Joined
 pub mod Locality
+pub mod Lent

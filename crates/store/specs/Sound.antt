@@ -15,6 +15,8 @@ use Rattle.store.specs.Records.{rightLength, recordsOf, recordIn}
 use Rattle.store.specs.Head.{firstFree, groupSize, firstOf, headZero}
 use Rattle.store.specs.Chain.{walk}
 use Rattle.store.specs.declared.Survey.{Survey}
+use Rattle.store.specs.declared.chain.Chain.{Chain}
+use Rattle.store.specs.declared.chain.Chain.the-variants.{Free, Inbox}
 use Rattle.store.specs.declared.Walked.{Walked}
 
 -- "readable with sender below n, not the addressee, and addressee the inbox's owner"
@@ -25,6 +27,11 @@ addressedTo n owner (Found e) =
 
 unfoldable pub belongsTo : ℕ → ℕ → List ℕ → Bool
 belongsTo n owner r = addressedTo n owner (readRecord n r)
+
+-- whether a record belongs on a chain of a group of n, as one function goes through both kinds
+unfoldable pub belongsOn : Chain → ℕ → List ℕ → Bool
+belongsOn Free n r = zeroAfterNext r
+belongsOn (Inbox owner) n r = belongsTo n owner r
 
 -- the inboxes of the nodes from k on, `left` of them, one after the other
 unfoldable pub walkInboxes : ℕ → ℕ → List (List ℕ) → ℕ → Walked → Walked
@@ -68,11 +75,17 @@ freeCount rs = walkFree rs .count
 unfoldable pub messageIn : List (List ℕ) → ℕ → Reading
 messageIn rs r = cond (eqb r 0) Fault (readRecord (groupSize rs) (recordIn rs r))
 
--- what one pass finds; of an unsound store nothing but that
+-- and of bytes that may be no store
+unfoldable pub messageAt : List ℕ → ℕ → Reading
+messageAt s r = cond (rightLength s) (messageIn (recordsOf s) r) Fault
+
+-- of an unsound store nothing is found but that
+abbrev pub unsound : Survey
+unsound = record { sound = false; n = 0; free = 0 }
+
+-- what one pass finds
 unfoldable pub surveyOf : List (List ℕ) → Survey
-surveyOf rs =
-    cond (soundRecords rs) (record { sound = true; n = groupSize rs; free = freeCount rs })
-    (record { sound = false; n = 0; free = 0 })
+surveyOf rs = cond (soundRecords rs) (record { sound = true; n = groupSize rs; free = freeCount rs }) unsound
 
 unfoldable pub survey : List ℕ → Survey
-survey s = cond (rightLength s) (surveyOf (recordsOf s)) (record { sound = false; n = 0; free = 0 })
+survey s = cond (rightLength s) (surveyOf (recordsOf s)) unsound
