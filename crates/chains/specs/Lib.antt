@@ -8,6 +8,7 @@ pub mod Inbox
 pub mod Sound
 pub mod Relinked
 pub mod Put
+pub mod Widths
 pub mod PutEach
 pub mod Drop
 pub mod Empty

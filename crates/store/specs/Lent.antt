@@ -18,7 +18,7 @@ use Rattle.endian.specs.Zero.{allZero}
 use Rattle.record.specs.Chunk.{cut, chunk, withChunk}
 use Rattle.record.specs.ChunkLaws.{cut-chunk, cut-with, length-with-chunk}
 use Rattle.record.specs.Layout.{recordSize, recordOf, withRecord}
-use Rattle.record.specs.LayoutLaws.{record-none, length-record-of, with-record-none}
+use Rattle.record.specs.RecordLaws.{record-none, length-record-of, with-record-none}
 use Rattle.record.specs.Record.{withNext}
 use Rattle.store.specs.Records.{recordCount, rightLength, recordsOf, recordIn, joined, onRecords}
 use Rattle.store.specs.Joined.{records-count, joined-records}

@@ -1,10 +1,10 @@
 -- `store::head::set_first_of` meets its contract: past the head nothing is written, else the head lent comes back with the number.
 use Rattle.record.specs.Layout.{withRecord}
 use Rattle.endian.specs.NumberLaws.{with-number-none}
-use Rattle.record.specs.LayoutLaws.{length-record-of}
+use Rattle.record.specs.RecordLaws.{length-record-of}
 use Rattle.store.specs.Head.{inboxAt}
 use Rattle.store.specs.Lent.{with-low, with-own}
-use Rattle.record.specs.LayoutLaws.{record-lent, record-back, with-record-none}
+use Rattle.record.specs.RecordLaws.{record-lent, record-back, with-record-none}
 use Rattle.record.specs.Layout.{recordOf}
 use Rattle.endian.specs.Number.{withNumber}
 use borrow.Rule.Slice.PartMut.{putMid}

@@ -1,5 +1,5 @@
 -- `store::head::set_group_size` meets its contract: a byte of the bytes is that byte of the head.
-use Rattle.record.specs.LayoutLaws.{with-record-none}
+use Rattle.record.specs.RecordLaws.{with-record-none}
 use Rattle.store.specs.Lent.{head-set}
 use Rattle.store.specs.Head.{sizeAt}
 use denote.Ref.{now}
