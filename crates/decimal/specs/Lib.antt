@@ -1,0 +1,5 @@
+pub mod Number
+pub mod Digits
+pub mod Place
+pub mod Reading
+pub mod Writing
