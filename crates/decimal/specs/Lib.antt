@@ -1,3 +1,4 @@
+pub mod Bytes
 pub mod Number
 pub mod Digits
 pub mod Place

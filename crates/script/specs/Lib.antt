@@ -1,5 +1,3 @@
 pub mod Line
 pub mod Pending
-pub mod Output
 pub mod Reading
-pub mod Printing

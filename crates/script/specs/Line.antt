@@ -6,6 +6,7 @@ use mathlib.Core.Bool.{_&&_, cond}
 use mathlib.Core.List.{List, [], _∷_}
 use lib.Dec.{leb, eqb}
 use lib.ListN.{length, getD, drop}
+use Rattle.decimal.specs.Bytes.{space}
 use Rattle.decimal.specs.Number.{numberIn}
 use Rattle.decimal.specs.declared.Number.{Number}
 use Rattle.decimal.specs.declared.Number.the-variants as number
@@ -14,9 +15,6 @@ use Rattle.script.specs.declared.Line.{Line}
 use Rattle.script.specs.declared.Line.the-variants.{SetUp, Call, Unread}
 use Rattle.script.specs.declared.TagField.{TagField}
 use Rattle.script.specs.declared.TagField.the-variants as tag
-
-abbrev pub space : ℕ
-space = 32
 
 -- the bytes before the first space
 unfoldable pub word : List ℕ → List ℕ

@@ -10,11 +10,12 @@ use lib.ListN.{length, getD, take, drop, set, drop-of-length-le, length-drop, le
 use lib.Seq.{drop-cons, take-all, take-suc-set, take-append-le, length-take-le, append-snoc}
 use borrow.Author.Tests.{ltb-true, ltb-false, leb-true, leb-false, le-leb, eq-eqb, ne-eqb, eqb-true}
 use Rattle.item.specs.Tests.{by-cond}
+use Rattle.decimal.specs.Bytes.{space}
 use Rattle.decimal.specs.Number.{numberIn}
 use Rattle.decimal.specs.Reading.{too-long, none-in}
 use Rattle.decimal.specs.declared.Number.{Number}
 use Rattle.decimal.specs.declared.Number.the-variants as number
-use Rattle.script.specs.Line.{space, word, afterWord, tagOf, tagIn, writeWith, writeOf, withNumber, oneNumber, lettered, lineOf}
+use Rattle.script.specs.Line.{word, afterWord, tagOf, tagIn, writeWith, writeOf, withNumber, oneNumber, lettered, lineOf}
 use Rattle.script.specs.Pending.{mostBytes, noneYet, pushed, pushedAll, pendingLine}
 use Rattle.script.specs.declared.Line.{Line}
 use Rattle.script.specs.declared.Line.the-variants.{SetUp, Call, Unread}
