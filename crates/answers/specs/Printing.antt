@@ -2,7 +2,7 @@
 use Prim.Native.Nat.{ℕ, suc, _+_, _<_, _≤_}
 use native.Mathlib.Numerals.{add-one}
 use native.Mathlib.Omega.{arith}
-use mathlib.Core.Path.{_≡_, refl, sym, ap, _∙_}
+use mathlib.Core.Path.{_≡_, ap, _∙_}
 use mathlib.Core.List.{List, [], _∷_, _++_}
 use lib.ListN.{length, getD, set, drop, drop-of-length-le, length-append}
 use lib.Seq.{sets, length-sets, drop-cons}
@@ -14,7 +14,7 @@ use Rattle.protocol.specs.Answer.{refusalNumber}
 use Rattle.protocol.specs.declared.Answer.{Answer}
 use Rattle.protocol.specs.declared.Answer.the-variants.{Ok, Settled, Accepted, Stopped, Refused}
 use Rattle.decimal.specs.Bytes.{space, lineFeed}
-use Rattle.answers.specs.Output.{Written, okWord, settledWord, acceptedWord, stoppedWord, refusedWord, unreadWord, tagBytes, itemBytes, answerBytes, replyBytes, outputLine, lineRoom}
+use Rattle.answers.specs.Output.{Written, tagBytes, itemBytes, answerBytes, replyBytes, outputLine, lineRoom}
 use Rattle.answers.specs.declared.Reply.{Reply}
 use Rattle.answers.specs.declared.Reply.the-variants as reply
 

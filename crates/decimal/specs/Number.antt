@@ -1,6 +1,6 @@
 -- A number as text (document 01, Drill program): "decimal numbers without leading zeros"; "a number above 64 bits" is none.
 use Prim.Native.Nat.{ℕ, _+_, _*_, _-_, _^_}
-use mathlib.Core.Bool.{Bool, true, false, _&&_, cond}
+use mathlib.Core.Bool.{Bool, true, _&&_, cond}
 use mathlib.Core.List.{List, [], _∷_}
 use lib.Dec.{ltb, leb, eqb}
 use lib.ListN.{length, getD}

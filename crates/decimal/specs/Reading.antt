@@ -1,19 +1,18 @@
 -- Laws of reading a number: one more digit, the end of the digits, and that more than twenty bytes are no number.
 use Prim.Native.Nat.{ℕ, zero, suc, _+_, _*_, _-_, _^_, _<_, _≤_}
-use native.Mathlib.Nat.{pow-succ', mul-assoc, mul-le-mul-right, not-suc-le-zero}
+use native.Mathlib.Nat.{pow-succ', mul-assoc, mul-le-mul-right}
 use native.Mathlib.Numerals.{add-one}
 use native.Mathlib.Omega.{arith}
 use mathlib.Core.Path.{_≡_, refl, sym, ap, _∙_}
 use mathlib.Core.Logic.{_⊎_, inl, inr, ⊎-elim}
-use mathlib.Core.Bool.{Bool, true, false, _&&_, cond, false≢true}
+use mathlib.Core.Bool.{Bool, true, false, _&&_, cond}
 use mathlib.Core.List.{List, [], _∷_}
 use lib.Dec.{ltb, leb, eqb}
 use lib.ListN.{length, getD, drop, drop-of-length-le}
 use lib.Seq.{drop-cons}
-use borrow.Author.Tests.{ltb-true, ltb-false, lt-ltb, le-ltb, le-leb, lt-leb, leb-true, eqb-true, eqb-false, ne-eqb}
+use borrow.Author.Tests.{ltb-true, ltb-false, lt-ltb, le-ltb, le-leb, leb-true, eqb-false, ne-eqb}
 use Rattle.item.specs.Tests.{by-cond, and-left, and-right}
 use Rattle.decimal.specs.Number.{isDigit, allDigits, valueFrom, numberFrom, leadingZero, numberIn}
-use Rattle.decimal.specs.declared.Number.{Number}
 use Rattle.decimal.specs.declared.Number.the-variants.{Is, None}
 
 -- what a number, or none, says of the two tests behind it

@@ -1,11 +1,11 @@
 -- Laws of writing a number: its digits one by one, that it has at most twenty, and that reading it gives it back; and of text written piece by piece.
 use Prim.Native.Nat.{ℕ, zero, suc, _+_, _*_, _-_, _/_, _%_, _^_, _<_, _≤_}
-use native.Mathlib.Nat.{pow-succ', add-suc, suc-add}
+use native.Mathlib.Nat.{pow-succ'}
 use native.Mathlib.Omega.{arith}
 use mathlib.Core.Path.{_≡_, refl, sym, ap, _∙_}
-use mathlib.Core.Bool.{Bool, true, false, _&&_, cond, false≢true}
+use mathlib.Core.Bool.{Bool, true, false, cond}
 use mathlib.Core.List.{List, [], _∷_, _++_}
-use lib.Dec.{ltb, leb, eqb}
+use lib.Dec.{ltb}
 use lib.ListN.{length, getD, set, length-append, List·getD-append}
 use lib.Seq.{sets}
 use borrow.Author.Tests.{ltb-true, ltb-false, lt-ltb, le-ltb, le-leb, lt-leb, ne-eqb}
@@ -14,8 +14,7 @@ use Rattle.decimal.specs.Number.{isDigit, allDigits, valueFrom, numberFr
 use Rattle.decimal.specs.Digits.{digitsOf, decimalOf}
 use Rattle.decimal.specs.Place.{placed, placeAfter}
 use Rattle.decimal.specs.Reading.{and-false}
-use Rattle.decimal.specs.declared.Number.{Number}
-use Rattle.decimal.specs.declared.Number.the-variants.{Is, None}
+use Rattle.decimal.specs.declared.Number.the-variants.{Is}
 
 -- a tenth of a number of one digit more
 tenth : (k v : ℕ) → v < 10 ^ suc k → v / 10 < 10 ^ k
@@ -119,6 +118,12 @@ pub reads-back : (v : ℕ) → v < 2 ^ 64 → numberIn (decimalOf v) ≡ Is v
 unfolding numberIn numberFrom decimalOf
 reads-back v h =
     rw (ne-eqb (length (digitsOf 20 v)) 0 (λ z. omega (arith, digits-some 19 v)), no-leading v h, digits-all 20 v, digits-value 19 v (omega arith), lt-ltb v (2 ^ 64) h)
+
+-- so two numbers that are written alike are the same
+pub decimal-same : (v w : ℕ) → v < 2 ^ 64 → w < 2 ^ 64 → decimalOf v ≡ decimalOf w → v ≡ w
+decimal-same v w h k e =
+    let i : Is v ≡ Is w = sym (reads-back v h) ∙ ap numberIn e ∙ reads-back w k in
+    cc
 
 -- text written after text is written at once
 pub sets-after : (l : List ℕ) (i : ℕ) (xs ys : List ℕ) (k : ℕ) → k ≡ i + length xs → sets (sets l i xs) k ys ≡ sets l i (xs ++ ys)

@@ -1,26 +1,24 @@
 -- Laws of reading a line: the word before the first space, and that a line of more than 43 bytes is unread.
-use Prim.Native.Nat.{ℕ, zero, suc, _+_, _-_, _<_, _≤_}
+use Prim.Native.Nat.{ℕ, suc, _+_, _-_, _<_, _≤_}
 use native.Mathlib.Numerals.{add-one}
 use native.Mathlib.Omega.{arith}
 use mathlib.Core.Path.{_≡_, refl, sym, ap, _∙_}
-use mathlib.Core.Bool.{Bool, true, false, _&&_, cond, false≢true}
+use mathlib.Core.Bool.{Bool, true, false, _&&_}
 use mathlib.Core.List.{List, [], _∷_, _++_, append-nil}
 use lib.Dec.{ltb, leb, eqb}
 use lib.ListN.{length, getD, take, drop, set, drop-of-length-le, length-drop, length-set, length-take, length-append}
 use lib.Seq.{drop-cons, take-all, take-suc-set, take-append-le, length-take-le, append-snoc}
-use borrow.Author.Tests.{ltb-true, ltb-false, leb-true, leb-false, le-leb, eq-eqb, ne-eqb, eqb-true}
+use borrow.Author.Tests.{ltb-true, ltb-false, leb-true, leb-false, ne-eqb}
 use Rattle.item.specs.Tests.{by-cond}
 use Rattle.decimal.specs.Bytes.{space}
 use Rattle.decimal.specs.Number.{numberIn}
 use Rattle.decimal.specs.Reading.{too-long, none-in}
 use Rattle.decimal.specs.declared.Number.{Number}
 use Rattle.decimal.specs.declared.Number.the-variants as number
-use Rattle.script.specs.Line.{word, afterWord, tagOf, tagIn, writeWith, writeOf, withNumber, oneNumber, lettered, lineOf}
+use Rattle.script.specs.Line.{word, afterWord, tagOf, tagIn, writeWith, writeOf, oneNumber, lettered, lineOf}
 use Rattle.script.specs.Pending.{mostBytes, noneYet, pushed, pushedAll, pendingLine}
-use Rattle.script.specs.declared.Line.{Line}
-use Rattle.script.specs.declared.Line.the-variants.{SetUp, Call, Unread}
+use Rattle.script.specs.declared.Line.the-variants.{Unread}
 use Rattle.script.specs.declared.Pending.{Pending}
-use Rattle.script.specs.declared.TagField.{TagField}
 use Rattle.script.specs.declared.TagField.the-variants as tag
 
 -- the word ends at a space, or goes on

@@ -1,6 +1,6 @@
 -- `answers::put_answer` meets its contract: each answer's word, and what stands after it.
-use Rattle.answers.specs.Output.{answerBytes}
 use borrow.Author.Needs.{needs}
+use Rattle.answers.specs.Output.{answerBytes}
 use Rattle.answers.proofs.put_answer.Statement.{statement}
 use Rattle.answers.proofs.put_answer.Tie as tie
 

@@ -1,16 +1,14 @@
 -- `answers::put_item` meets its contract: the word with the index, a space, the tag; and there is room for each.
-use mathlib.Core.List.{_∷_}
+use native.Mathlib.Omega.{arith}
+use mathlib.Core.List.{_∷_, append-assoc}
+use mathlib.Core.Path.{_∙_}
 use lib.ListN.{length-append}
-use Rattle.answers.specs.Output.{tagBytes}
+use borrow.Author.Needs.{needs}
+use Rattle.answers.specs.Output.{tagBytes, itemBytes}
 use Rattle.decimal.specs.Bytes.{space}
 use Rattle.decimal.specs.Writing.{decimal-length}
 use Rattle.decimal.specs.Digits.{decimalOf}
-use native.Mathlib.Omega.{arith}
-use mathlib.Core.List.{append-assoc}
-use mathlib.Core.Path.{_∙_}
 use Rattle.answers.specs.Printing.{then}
-use Rattle.answers.specs.Output.{itemBytes}
-use borrow.Author.Needs.{needs}
 use Rattle.answers.proofs.put_item.Statement.{statement}
 use Rattle.answers.proofs.put_item.Tie as tie
 

@@ -1,13 +1,11 @@
 -- `answers::put_line` meets its contract: its four pieces one after another; the room for the longest line is
 -- more than each piece needs.
-use Prim.Native.Nat.{_+_, _≤_}
 use native.Mathlib.Omega.{arith}
 use mathlib.Core.Path.{_∙_}
-use lib.ListN.{length}
+use borrow.Author.Needs.{needs}
 use Rattle.decimal.specs.Writing.{decimal-length}
 use Rattle.answers.specs.Output.{outputLine}
 use Rattle.answers.specs.Printing.{then, number-written, reply-length}
-use borrow.Author.Needs.{needs}
 use Rattle.answers.proofs.put_line.Statement.{statement}
 use Rattle.answers.proofs.put_line.Tie as tie
 

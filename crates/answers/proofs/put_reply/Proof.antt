@@ -1,6 +1,6 @@
 -- `answers::put_reply` meets its contract: the answer, or the word for none.
-use Rattle.answers.specs.Output.{replyBytes}
 use borrow.Author.Needs.{needs}
+use Rattle.answers.specs.Output.{replyBytes}
 use Rattle.answers.proofs.put_reply.Statement.{statement}
 use Rattle.answers.proofs.put_reply.Tie as tie
 

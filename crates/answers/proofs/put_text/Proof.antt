@@ -1,13 +1,12 @@
 -- `answers::put_text` meets its contract. The invariant: writing the bytes left, from the present place, gives
 -- what writing all of them gives.
-use mathlib.Core.Path.{sym, _∙_, refl}
+use Prim.Native.Nat.{_+_, _≤_, _-_}
 use native.Mathlib.Omega.{arith}
-use Rattle.answers.specs.Printing.{sets-first, sets-turn, sets-over}
+use mathlib.Core.Path.{sym, _∙_, refl, _≡_}
 use lib.Seq.{sets}
 use lib.ListN.{length, drop, length-set}
-use mathlib.Core.Path.{_≡_}
-use Prim.Native.Nat.{_+_, _≤_, _-_}
 use borrow.Author.Needs.{needs}
+use Rattle.answers.specs.Printing.{sets-first, sets-turn, sets-over}
 use Rattle.answers.proofs.put_text.Statement.{statement}
 use Rattle.answers.proofs.put_text.Tie as tie
 

@@ -1,10 +1,10 @@
 -- `answers::put_value` meets its contract: the number after the word.
-use lib.ListN.{length}
 use Prim.Native.Nat.{_+_, _≤_}
 use native.Mathlib.Omega.{arith}
 use mathlib.Core.Path.{_∙_}
-use Rattle.answers.specs.Printing.{then, written-length, number-written}
+use lib.ListN.{length}
 use borrow.Author.Needs.{needs}
+use Rattle.answers.specs.Printing.{then, number-written}
 use Rattle.answers.proofs.put_value.Statement.{statement}
 use Rattle.answers.proofs.put_value.Tie as tie
 

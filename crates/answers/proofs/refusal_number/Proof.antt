@@ -1,6 +1,6 @@
 -- `answers::refusal_number` meets its contract: the numbers of the definition, one by one.
-use Rattle.protocol.specs.Answer.{refusalNumber}
 use borrow.Author.Needs.{needs}
+use Rattle.protocol.specs.Answer.{refusalNumber}
 use Rattle.answers.proofs.refusal_number.Statement.{statement}
 use Rattle.answers.proofs.refusal_number.Tie as tie
 

@@ -1,12 +1,11 @@
 -- `decimal::spell` meets its contract, by recursion on the number: the digits before the last one, and then that one.
-use Prim.Native.Nat.{_/_}
+use Prim.Native.Nat.{_/_, ℕ, _<_}
 use native.Mathlib.Omega.{arith}
 use mathlib.Core.Path.{ap}
 use lib.ListN.{length, length-set}
 use Rattle.decimal.specs.Digits.{decimalOf}
 use Rattle.decimal.specs.Writing.{decimal-one, decimal-more, decimal-longer, sets-after}
 use borrow.Author.Needs.{needs}
-use Prim.Native.Nat.{ℕ, _<_}
 use borrow.Fn.Kinds.{In}
 use borrow.Fn.PlainCycle.{Measures, is, falls, and}
 use Rattle.decimal.proofs.spell.Reads as spell

@@ -1,13 +1,12 @@
 -- `decimal::digits_in` meets its contract. The invariant: the digits left, after the number so far, make what all of
 -- them make; each turn is one law of the definition.
-use native.Mathlib.Omega.{arith}
-use mathlib.Core.Path.{sym, _∙_}
-use Rattle.decimal.specs.Reading.{digit-is, digit-none, digits-end, is-fits}
 use Prim.Native.Nat.{_≤_, _<_, _-_, _^_}
-use mathlib.Core.Path.{_≡_}
+use native.Mathlib.Omega.{arith}
+use mathlib.Core.Path.{sym, _∙_, _≡_}
 use lib.ListN.{length, drop}
-use Rattle.decimal.specs.Number.{numberFrom}
 use borrow.Author.Needs.{needs}
+use Rattle.decimal.specs.Reading.{digit-is, digit-none, digits-end, is-fits}
+use Rattle.decimal.specs.Number.{numberFrom}
 use Rattle.decimal.proofs.digits_in.Statement.{statement}
 use Rattle.decimal.proofs.digits_in.Tie as tie
 

@@ -1,7 +1,7 @@
 -- `decimal::leading_zero` meets its contract: the two tests of the definition.
 use borrow.Author.Tests.{le-leb, lt-leb}
-use Rattle.decimal.specs.Number.{leadingZero}
 use borrow.Author.Needs.{needs}
+use Rattle.decimal.specs.Number.{leadingZero}
 use Rattle.decimal.proofs.leading_zero.Statement.{statement}
 use Rattle.decimal.proofs.leading_zero.Tie as tie
 

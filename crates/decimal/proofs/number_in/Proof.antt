@@ -1,8 +1,8 @@
 -- `decimal::number_in` meets its contract: the two tests of the definition, then the digits.
 use mathlib.Core.Path.{sym, _∙_}
 use borrow.Author.Tests.{eq-eqb, ne-eqb}
-use Rattle.decimal.specs.Number.{numberIn}
 use borrow.Author.Needs.{needs}
+use Rattle.decimal.specs.Number.{numberIn}
 use Rattle.decimal.proofs.number_in.Statement.{statement}
 use Rattle.decimal.proofs.number_in.Tie as tie
 

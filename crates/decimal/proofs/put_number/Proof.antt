@@ -1,8 +1,8 @@
 -- `decimal::put_number` meets its contract: the test for room, and `spell`; the longest number has twenty digits.
 use native.Mathlib.Omega.{arith}
 use mathlib.Core.Path.{sym, _∙_}
-use Rattle.decimal.specs.Writing.{decimal-length, placed-fits, after-fits, placed-none, after-none}
 use borrow.Author.Needs.{needs}
+use Rattle.decimal.specs.Writing.{decimal-length, placed-fits, after-fits, placed-none, after-none}
 use Rattle.decimal.proofs.put_number.Statement.{statement}
 use Rattle.decimal.proofs.put_number.Tie as tie
 

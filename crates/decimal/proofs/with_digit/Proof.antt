@@ -2,8 +2,8 @@
 use Prim.Native.Nat.{_+_, _*_, _-_, _^_}
 use native.Mathlib.Omega.{arith}
 use borrow.Author.Tests.{le-leb, lt-leb, lt-ltb, le-ltb}
-use Rattle.decimal.specs.Number.{isDigit, allDigits, valueFrom, numberFrom}
 use borrow.Author.Needs.{needs}
+use Rattle.decimal.specs.Number.{isDigit, allDigits, valueFrom, numberFrom}
 use Rattle.decimal.proofs.with_digit.Statement.{statement}
 use Rattle.decimal.proofs.with_digit.Tie as tie
 

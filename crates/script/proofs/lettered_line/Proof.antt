@@ -1,8 +1,8 @@
 -- `script::lettered_line` meets its contract: the letter decides, then the number.
 use mathlib.Core.Path.{sym, _∙_}
 use borrow.Author.Tests.{eq-eqb, ne-eqb}
-use Rattle.script.specs.Line.{lettered, oneNumber}
 use borrow.Author.Needs.{needs}
+use Rattle.script.specs.Line.{lettered, oneNumber}
 use Rattle.script.proofs.lettered_line.Statement.{statement}
 use Rattle.script.proofs.lettered_line.Tie as tie
 

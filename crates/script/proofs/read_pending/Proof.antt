@@ -1,12 +1,11 @@
 -- `script::read_pending` meets its contract; with more than 64 bytes the line is too long to be read.
 use native.Mathlib.Omega.{arith}
-use mathlib.Core.Path.{_≡_}
+use mathlib.Core.Path.{_≡_, sym}
 use lib.Seq.{length-take-le}
 use lib.ListN.{length}
-use mathlib.Core.Path.{sym}
+use borrow.Author.Needs.{needs}
 use Rattle.script.specs.Reading.{pending-full}
 use Rattle.script.specs.Pending.{pendingLine}
-use borrow.Author.Needs.{needs}
 use Rattle.script.proofs.read_pending.Statement.{statement}
 use Rattle.script.proofs.read_pending.Tie as tie
 

@@ -1,7 +1,7 @@
 -- `script::tag_in` meets its contract: a tag is a number.
 use mathlib.Core.Path.{sym, _∙_}
-use Rattle.script.specs.Line.{tagIn, tagOf}
 use borrow.Author.Needs.{needs}
+use Rattle.script.specs.Line.{tagIn, tagOf}
 use Rattle.script.proofs.tag_in.Statement.{statement}
 use Rattle.script.proofs.tag_in.Tie as tie
 

@@ -1,12 +1,12 @@
 -- `script::word_length` meets its contract. The invariant: the bytes passed and the word of those left are as
 -- many as the word of all.
+use Prim.Native.Nat.{_+_, _≤_, _-_}
 use native.Mathlib.Omega.{arith}
+use mathlib.Core.Path.{_≡_}
+use lib.ListN.{length, drop}
+use borrow.Author.Needs.{needs}
 use Rattle.script.specs.Reading.{word-ends, word-goes-on, word-over}
 use Rattle.script.specs.Line.{word}
-use lib.ListN.{length, drop}
-use mathlib.Core.Path.{_≡_}
-use Prim.Native.Nat.{_+_, _≤_, _-_}
-use borrow.Author.Needs.{needs}
 use Rattle.script.proofs.word_length.Statement.{statement}
 use Rattle.script.proofs.word_length.Tie as tie
 

@@ -1,10 +1,10 @@
 -- `script::write_line` meets its contract: the definition by the parts of the bytes before and after the space.
-use lib.Seq.{length-take-le}
 use native.Mathlib.Omega.{arith}
 use mathlib.Core.Path.{sym, _∙_}
-use Rattle.script.specs.Reading.{write-parts, write-one-word}
-use Rattle.script.specs.Line.{writeOf, writeWith}
+use lib.Seq.{length-take-le}
 use borrow.Author.Needs.{needs}
+use Rattle.script.specs.Reading.{write-parts, write-one-word}
+use Rattle.script.specs.Line.{writeWith}
 use Rattle.script.proofs.write_line.Statement.{statement}
 use Rattle.script.proofs.write_line.Tie as tie
 

@@ -1,8 +1,8 @@
 -- `script::Pending::push` meets its contract: the test of the definition decides both.
 use native.Mathlib.Numerals.{add-one}
 use borrow.Author.Tests.{lt-ltb, le-ltb}
-use Rattle.script.specs.Pending.{pushed}
 use borrow.Author.Needs.{needs}
+use Rattle.script.specs.Pending.{pushed}
 use Rattle.script.proofs.Pending.push.Statement.{statement}
 use Rattle.script.proofs.Pending.push.Tie as tie
 
