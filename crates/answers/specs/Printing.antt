@@ -2,10 +2,10 @@
 use Prim.Native.Nat.{ℕ, suc, _+_, _<_, _≤_}
 use native.Mathlib.Numerals.{add-one}
 use native.Mathlib.Omega.{arith}
-use mathlib.Core.Path.{_≡_, ap, _∙_}
+use mathlib.Core.Path.{_≡_, _∙_}
 use mathlib.Core.List.{List, [], _∷_, _++_}
 use lib.ListN.{length, getD, set, drop, drop-of-length-le, length-append}
-use lib.Seq.{sets, length-sets, drop-cons}
+use lib.Seq.{sets, drop-cons}
 use Rattle.item.specs.declared.Item.{Item}
 use Rattle.decimal.specs.Digits.{decimalOf}
 use Rattle.decimal.specs.Place.{placed, placeAfter}
@@ -29,7 +29,7 @@ sets-turn out at i text h = let e : at + suc i ≡ suc (at + i) = omega arith in
 pub sets-over : (out : List ℕ) (at i : ℕ) (text : List ℕ) → length text ≤ i → sets out at (drop i text) ≡ out
 sets-over out at i text h = rw (drop-of-length-le text h)
 
--- text after text; the length stays
+-- text after text
 pub then : {out : List ℕ} {at : ℕ} {xs : List ℕ} {k : ℕ} {mid ys : List ℕ} {next : ℕ} {last : List ℕ}
     → Written out at xs k mid → Written mid k ys next last → Written out at (xs ++ ys) next last
 then {out} {at} {xs} {k} {mid} {ys} {next} {last} w v =
@@ -37,9 +37,6 @@ then {out} {at} {xs} {k} {mid} {ys} {next} {last} w v =
       place = omega (arith, w .place, v .place, length-append xs ys);
       bytes = v .bytes ∙ rw (w .bytes) (sets-after out at xs ys k (w .place));
     }
-
-pub written-length : {out : List ℕ} {at : ℕ} {xs : List ℕ} {k : ℕ} {last : List ℕ} → Written out at xs k last → length last ≡ length out
-written-length {out} {at} {xs} w = ap length (w .bytes) ∙ length-sets out at xs
 
 -- a number that was put where there is room
 pub number-written : (out : List ℕ) (at v : ℕ) {k : ℕ} {last : List ℕ} → at + 20 ≤ length out

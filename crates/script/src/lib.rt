@@ -1,7 +1,7 @@
 // The drill's script: its input lines read, and gathered from bytes that come one by one. Everything is proved, no
 // public function has a `requires`, and each gives what one definition of specs/ says.
-use decimal::number_in;
 use decimal::Number;
+use decimal::number_in;
 use item::Tag;
 use protocol::Event;
 ghost use mathlib.Core.Path.{_≡_};
