@@ -7,7 +7,7 @@ use mathlib.Core.List.{List, [], _∷_, _++_}
 use lib.ListN.{length, getD, set, drop, drop-of-length-le, length-append}
 use lib.Seq.{sets, drop-cons}
 use Rattle.item.specs.declared.Item.{Item}
-use Rattle.decimal.specs.Digits.{decimalOf}
+use Rattle.decimal.specs.Digits.{decimalOf, maxDigits}
 use Rattle.decimal.specs.Place.{placed, placeAfter}
 use Rattle.decimal.specs.Writing.{decimal-length, sets-after, placed-fits, after-fits}
 use Rattle.protocol.specs.Answer.{refusalNumber}
@@ -39,10 +39,10 @@ then {out} {at} {xs} {k} {mid} {ys} {next} {last} w v =
     }
 
 -- a number that was put where there is room
-pub number-written : (out : List ℕ) (at v : ℕ) {k : ℕ} {last : List ℕ} → at + 20 ≤ length out
-    → (k ≡ placeAfter 20 out at (decimalOf v)) × (last ≡ placed 20 out at (decimalOf v)) → Written out at (decimalOf v) k last
+pub number-written : (out : List ℕ) (at v : ℕ) {k : ℕ} {last : List ℕ} → at + maxDigits ≤ length out
+    → (k ≡ placeAfter maxDigits out at (decimalOf v)) × (last ≡ placed maxDigits out at (decimalOf v)) → Written out at (decimalOf v) k last
 number-written out at v h p =
-    record { place = p .0 ∙ after-fits 20 out at (decimalOf v) h; bytes = p .1 ∙ placed-fits 20 out at (decimalOf v) h }
+    record { place = p .0 ∙ after-fits maxDigits out at (decimalOf v) h; bytes = p .1 ∙ placed-fits maxDigits out at (decimalOf v) h }
 
 -- the longest: a word of nine bytes and an item of 41
 item-length : (item : Item) → length (itemBytes item) ≤ 41

@@ -10,5 +10,8 @@ digitsOf zero v = []
 digitsOf (suc k) v = cond (ltb v 10) ((48 + v) ∷ []) (digitsOf k (v / 10) ++ ((48 + v % 10) ∷ []))
 
 -- every number of 64 bits has at most 20 digits
+abbrev pub maxDigits : ℕ
+maxDigits = 20
+
 unfoldable pub decimalOf : ℕ → List ℕ
-decimalOf v = digitsOf 20 v
+decimalOf v = digitsOf maxDigits v

@@ -6,7 +6,7 @@ ghost use mathlib.Core.List.{[], _∷_};
 ghost use lib.ListN.{length};
 ghost use lib.Seq.{sets};
 ghost use Rattle.decimal.specs.Number.{leadingZero, numberFrom, numberIn};
-ghost use Rattle.decimal.specs.Digits.{decimalOf};
+ghost use Rattle.decimal.specs.Digits.{decimalOf, maxDigits};
 ghost use Rattle.decimal.specs.Place.{placeAfter, placed};
 
 // The most digits that a number takes.
@@ -81,7 +81,7 @@ fn with_digit(v: u64, b: u8) -> Number
 // Writes v in decimal at the place, and gives the place after it. Where fewer bytes are left than the longest number
 // takes, nothing is written and the place comes back.
 pub fn put_number(out: &mut [u8], at: usize, v: u64) -> usize
-    ensures { λ r. ⌜ (r ≡ placeAfter 20 (now (out .entry)) at (decimalOf v)) × (now (out .exit) ≡ placed 20 (now (out .entry)) at (decimalOf v)) ⌝ }
+    ensures { λ r. ⌜ (r ≡ placeAfter maxDigits (now (out .entry)) at (decimalOf v)) × (now (out .exit) ≡ placed maxDigits (now (out .entry)) at (decimalOf v)) ⌝ }
 {
     if out.len() < MAX_DIGITS {
         return at;
