@@ -1,0 +1,3 @@
+pub mod Output
+pub mod Printing
+pub mod Examples

@@ -1,0 +1,4 @@
+pub mod Line
+pub mod Pending
+pub mod Reading
+pub mod Examples

@@ -1,0 +1,163 @@
+// The drill's script: its input lines read, and gathered from bytes that come one by one. Everything is proved, no
+// public function has a `requires`, and each gives what one definition of specs/ says.
+use decimal::Number;
+use decimal::number_in;
+use item::Tag;
+use protocol::Event;
+ghost use mathlib.Core.Path.{_≡_};
+ghost use lib.ListN.{length};
+ghost use Rattle.script.specs.Line.{lettered, lineOf, tagIn, withNumber, word, writeOf};
+ghost use Rattle.script.specs.Pending.{noneYet, pendingLine, pushed};
+
+// What an input line asks for.
+pub enum Line {
+    // A group of this many nodes, set up.
+    SetUp(u64),
+    Call(Event),
+    // The line has none of these forms.
+    Unread,
+}
+
+// What some bytes are as a tag.
+pub enum TagField {
+    Is(Tag),
+    None,
+}
+
+// The bytes of the present line that have come so far. A line of more than 64 bytes is no longer than 64 here; both
+// are unread, as every line of more than 43 bytes is.
+pub struct Pending {
+    pub bytes: [u8; Pending::MOST],
+    pub len: usize,
+}
+
+impl Pending {
+    // The most bytes that are kept of a line.
+    pub const MOST: usize = 64;
+
+    // A line of which nothing has come.
+    pub fn none() -> Pending
+        ensures { λ r. ⌜ r ≡ noneYet ⌝ }
+    {
+        Pending {
+            bytes: [0u8; Pending::MOST],
+            len: 0,
+        }
+    }
+
+    // The line with one more byte.
+    pub fn push(self, b: u8) -> Pending
+        ensures { λ r. ⌜ r ≡ pushed self b ⌝ }
+    {
+        let len = self.len;
+        if Pending::MOST <= len {
+            return self;
+        }
+        let mut next = self;
+        next.bytes[len] = b;
+        next.len = len + 1;
+        next
+    }
+}
+
+// What the line asks for: a letter, a space, and the numbers that the letter takes, separated by one space.
+pub fn read_line(s: &[u8]) -> Line
+    ensures { λ r. ⌜ r ≡ lineOf (now (s .entry)) ⌝ }
+{
+    if s.len() < 2 {
+        return Line::Unread;
+    }
+    if s[1] != b' ' {
+        return Line::Unread;
+    }
+    let letter = s[0];
+    lettered_line(letter, &s[2..])
+}
+
+// What the bytes that have come ask for, as a whole line.
+pub fn read_pending(p: Pending) -> Line
+    ensures { λ r. ⌜ r ≡ pendingLine p ⌝ }
+{
+    let bytes = p.bytes;
+    let len = p.len;
+    if Pending::MOST < len {
+        return Line::Unread;
+    }
+    read_line(&bytes[..len])
+}
+
+// What a letter asks for with what stands after its space.
+fn lettered_line(letter: u8, rest: &[u8]) -> Line
+    ensures { λ r. ⌜ r ≡ lettered letter (now (rest .entry)) ⌝ }
+{
+    if letter == b'w' {
+        return write_line(rest);
+    }
+    let number = number_in(rest);
+    let Number::Is(v) = number else {
+        return Line::Unread;
+    };
+    with_number(letter, v)
+}
+
+// What a letter that takes one number asks for.
+fn with_number(letter: u8, v: u64) -> Line
+    ensures { λ r. ⌜ r ≡ withNumber letter v ⌝ }
+{
+    match letter {
+        b'n' => Line::SetUp(v),
+        b'r' => Line::Call(Event::Retry { node: v }),
+        b'c' => Line::Call(Event::Crash { node: v }),
+        b's' => Line::Call(Event::Start { node: v }),
+        b'd' => Line::Call(Event::Deliver { record: v }),
+        b'x' => Line::Call(Event::Drop { record: v }),
+        _ => Line::Unread,
+    }
+}
+
+// A Write: a node and a tag, separated by a space.
+fn write_line(s: &[u8]) -> Line
+    ensures { λ r. ⌜ r ≡ writeOf (now (s .entry)) ⌝ }
+{
+    let k = word_length(s);
+    if s.len() <= k {
+        return Line::Unread;
+    }
+    let number = number_in(&s[..k]);
+    let Number::Is(node) = number else {
+        return Line::Unread;
+    };
+    let field = tag_in(&s[k + 1..]);
+    let TagField::Is(tag) = field else {
+        return Line::Unread;
+    };
+    Line::Call(Event::Write {
+        node: node,
+        tag: tag,
+    })
+}
+
+// How many bytes stand before the first space.
+fn word_length(s: &[u8]) -> usize
+    ensures { λ r. ⌜ r ≡ length (word (now (s .entry))) ⌝ }
+{
+    let mut i = 0;
+    while i < s.len() {
+        if s[i] == b' ' {
+            return i;
+        }
+        i += 1;
+    }
+    i
+}
+
+// The tag that the bytes write: a number.
+fn tag_in(s: &[u8]) -> TagField
+    ensures { λ r. ⌜ r ≡ tagIn (now (s .entry)) ⌝ }
+{
+    let number = number_in(s);
+    match number {
+        Number::Is(v) => TagField::Is(Tag(v)),
+        Number::None => TagField::None,
+    }
+}
