@@ -1,11 +1,10 @@
 -- The cases of each decision: what holds of every refusal, and of what the definition gives where its tests pass, holds of
 -- the decision. By the named tests alone; no other proof opens a decision.
-use Prim.Native.Nat.{ℕ, suc}
+use Prim.Native.Nat.{ℕ}
 use mathlib.Core.Path.{_≡_, sym, _∙_}
 use mathlib.Core.Bool.{true, false, _&&_, false≢true}
 use mathlib.Core.List.{List}
-use lib.Dec.{ltb}
-use Rattle.item.specs.Counter.{sameIncarnation, earlier, incarnationAtLargest, attemptAtLargest}
+use Rattle.item.specs.Counter.{earlier, incarnationAtLargest, attemptAtLargest}
 use Rattle.item.specs.Item.{ranksBelow, sameItem}
 use Rattle.item.specs.Tests.{by-cond}
 use Rattle.item.specs.declared.Attempt.{Attempt}
@@ -15,25 +14,10 @@ use Rattle.item.specs.declared.Tag.{Tag}
 use Rattle.message.specs.declared.Message.the-variants as message
 use Rattle.protocol.specs.Answer.{ok, refused}
 use Rattle.protocol.specs.Fetching.{onFetch, withTable, hasConflict, stopped, writtenBack, nodeRecover, tableCounted, onTable}
-use Rattle.protocol.specs.Node.{half, rowOf, storedRow, countPeers, crashed, started, withRow, withCounted, confirmingBegun}
+use Rattle.protocol.specs.Node.{rowOf, storedRow, crashed, started, withRow, withCounted, confirmingBegun, belowHalf, atMostHalf, ownIncarnation}
 use Rattle.protocol.specs.Operation.{isRefused}
 use Rattle.protocol.specs.Phase.{isDown, isFetching, isUp, isUpIdle, isStoring, isConfirming, atStage}
-use Rattle.protocol.specs.Storing.{
-  storeVerdict,
-  replyStore,
-  onStore,
-  ownWrite,
-  isCounted,
-  sendConfirm,
-  storedCounted,
-  onStored,
-  storedUnder,
-  onConfirm,
-  askedUnder,
-  storeSuccess,
-  confirmedCounted,
-  onConfirmed,
-}
+use Rattle.protocol.specs.Storing.{storeVerdict, replyStore, onStore, ownWrite, isCounted, sendConfirm, storedCounted, onStored, storedUnder, onConfirm, askedUnder, storeSuccess, confirmedCounted, onConfirmed}
 use Rattle.protocol.specs.Write.{sendStore, sendFetch, writeAtLargest, written, writeStep, retried, nothingToRetry, retryStep, crashStep, startStep}
 use Rattle.protocol.specs.declared.Node.{Node}
 use Rattle.protocol.specs.declared.Refusal.{Refusal}
@@ -107,7 +91,7 @@ module _ (P : Step → Type 0) (node : Node) (refusal : (why : Refusal) → P (r
   stored-cases sender incarnation other attempt item h last = by-cond P (isStoring (node .phase)) _ _
       (λ e. by-cond P (ownWrite node other attempt item) _ _
       (λ own. by-cond P (isCounted node sender) _ _ (λ c. refusal Counted)
-      (λ c. by-cond P (ltb (countPeers (withCounted node sender incarnation .counted)) (half (withCounted node sender incarnation .n))) _ _
+      (λ c. by-cond P (belowHalf (withCounted node sender incarnation)) _ _
       (λ few. h e own) (λ few. last e own)))
       (λ own. refusal Stale))
       (λ e. refusal NotTaken)
@@ -116,7 +100,7 @@ module _ (P : Step → Type 0) (node : Node) (refusal : (why : Refusal) → P (r
       → (P (ok node (sends.Back (message.Confirmed incarnation attempt item)))) → P (onConfirm node sender incarnation other attempt item)
   unfolding onConfirm
   confirm-cases sender incarnation other attempt item h = by-cond P (isUp (node .phase)) _ _
-      (λ e. by-cond P (sameIncarnation other (node .incarnation) && storedUnder (rowOf node sender) incarnation attempt item) _ _
+      (λ e. by-cond P (ownIncarnation node other && storedUnder (rowOf node sender) incarnation attempt item) _ _
       (λ fit. h) (λ fit. refusal Stale))
       (λ e. refusal NotTaken)
 
@@ -125,13 +109,13 @@ module _ (P : Step → Type 0) (node : Node) (refusal : (why : Refusal) → P (r
       → let counted = withCounted node sender incarnation in
       (isConfirming (node .phase) ≡ true → (ownWrite node other attempt item && askedUnder node sender incarnation) ≡ true → P (ok counted sends.Nothing))
       → (isConfirming (node .phase) ≡ true → (ownWrite node other attempt item && askedUnder node sender incarnation) ≡ true
-      → ltb (countPeers (counted .counted)) (half (counted .n)) ≡ false → P (storeSuccess counted))
+      → belowHalf counted ≡ false → P (storeSuccess counted))
       → P (onConfirmed node sender incarnation other attempt item)
   unfolding onConfirmed confirmedCounted
   confirmed-cases sender incarnation other attempt item h last = by-cond P (isConfirming (node .phase)) _ _
       (λ e. by-cond P (ownWrite node other attempt item && askedUnder node sender incarnation) _ _
       (λ own. by-cond P (isCounted node sender) _ _ (λ c. refusal Counted)
-      (λ c. by-cond P (ltb (countPeers (withCounted node sender incarnation .counted)) (half (withCounted node sender incarnation .n))) _ _
+      (λ c. by-cond P (belowHalf (withCounted node sender incarnation)) _ _
       (λ few. h e own) (λ few. last e own few)))
       (λ own. refusal Stale))
       (λ e. refusal NotTaken)
@@ -144,16 +128,16 @@ module _ (P : Step → Type 0) (node : Node) (refusal : (why : Refusal) → P (r
   -- Table: counted, and with the (f + 1)-th the node stops or writes back
   pub table-cases : (sender : ℕ) (incarnation other : Incarnation) (items : List Item)
       → let counted = withTable node sender incarnation items in
-      (isFetching (node .phase) ≡ true → sameIncarnation other (node .incarnation) ≡ true → P (ok counted sends.Nothing))
+      (isFetching (node .phase) ≡ true → ownIncarnation node other ≡ true → P (ok counted sends.Nothing))
       → P (stopped counted)
-      → (isFetching (node .phase) ≡ true → sameIncarnation other (node .incarnation) ≡ true
-      → ltb (countPeers (counted .counted)) (suc (half (counted .n))) ≡ false → hasConflict counted ≡ false → P (sendStore (writtenBack counted)))
+      → (isFetching (node .phase) ≡ true → ownIncarnation node other ≡ true
+      → atMostHalf counted ≡ false → hasConflict counted ≡ false → P (sendStore (writtenBack counted)))
       → P (onTable node sender incarnation other items)
   unfolding onTable tableCounted nodeRecover
   table-cases sender incarnation other items h conflict last = by-cond P (isFetching (node .phase)) _ _
-      (λ e. by-cond P (sameIncarnation other (node .incarnation)) _ _
+      (λ e. by-cond P (ownIncarnation node other) _ _
       (λ own. by-cond P (isCounted node sender) _ _ (λ c. refusal Counted)
-      (λ c. by-cond P (ltb (countPeers (withTable node sender incarnation items .counted)) (suc (half (withTable node sender incarnation items .n)))) _ _
+      (λ c. by-cond P (atMostHalf (withTable node sender incarnation items)) _ _
       (λ few. h e own)
       (λ few. by-cond P (hasConflict (withTable node sender incarnation items)) _ _ (λ c′. conflict) (λ c′. last e own few c′))))
       (λ own. refusal Stale))

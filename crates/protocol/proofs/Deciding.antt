@@ -1,9 +1,9 @@
 -- Which refusals each decision of a node makes: every test of it is followed once.
-use Prim.Native.Nat.{ℕ, suc}
+use Prim.Native.Nat.{ℕ}
 use mathlib.Core.Path.{_≡_, refl, sym, ap, subst, _∙_}
 use mathlib.Core.Bool.{Bool, true, false, cond, _&&_, false≢true}
 use mathlib.Core.List.{List, [], _∷_, List·Memᴰ, List·Memᴰ·head, List·Memᴰ·tail, List·Memᴰ·not-nil, Memᴰ·cast}
-use lib.Dec.{ltb, eqb}
+use lib.Dec.{eqb}
 use borrow.Author.Tests.{eqb-true}
 use Rattle.item.specs.Counter.{sameIncarnation, attemptAtLargest, incarnationAtLargest, earlier}
 use Rattle.item.specs.Item.{ranksBelow, sameItem}
@@ -18,7 +18,7 @@ use Rattle.message.specs.declared.Message.the-variants as message
 use Rattle.protocol.specs.Answer.{ok, refused, refusalNumber}
 use Rattle.protocol.specs.Deliver.{onMessage}
 use Rattle.protocol.specs.Fetching.{onFetch, onTable, tableCounted, withTable, nodeRecover, hasConflict, stopped, writtenBack}
-use Rattle.protocol.specs.Node.{half, rowOf, countPeers, withCounted, crashed, started}
+use Rattle.protocol.specs.Node.{rowOf, withCounted, crashed, started, belowHalf, atMostHalf}
 use Rattle.protocol.specs.Operation.{isRefused}
 use Rattle.protocol.specs.Phase.{isDown, isUp, isUpIdle, isFetching, isStoring, isConfirming, isReturning}
 use Rattle.protocol.specs.Storing.{storeVerdict, replyStore, onStore, ownWrite, isCounted, sendConfirm, storedCounted, onStored, storedUnder, onConfirm, askedUnder, endAnswer, storeSuccess, confirmedCounted, onConfirmed}
@@ -137,13 +137,13 @@ module _ (node : Node) (sender : ℕ) (incarnation : Incarnation) where
 stored-decides : (node : Node) → Decides ofMessage (storedCounted node)
 unfolding storedCounted sendConfirm
 stored-decides node =
-    by-cond (Decides ofMessage) (ltb (countPeers (node .counted)) (half (node .n))) _ _
+    by-cond (Decides ofMessage) (belowHalf node) _ _
     (λ _. by-ok ofMessage node _) (λ _. by-ok ofMessage _ _)
 
 confirmed-decides : (node : Node) → Decides ofMessage (confirmedCounted node)
 unfolding confirmedCounted storeSuccess endAnswer isRefused
 confirmed-decides node =
-    by-cond (Decides ofMessage) (ltb (countPeers (node .counted)) (half (node .n))) _ _
+    by-cond (Decides ofMessage) (belowHalf node) _ _
     (λ _. by-ok ofMessage node _)
     (λ _. by-none ofMessage (storeSuccess node)
     (by-cond (λ a. isRefused a ≡ false) (isReturning (node .phase)) (answer.Accepted _) (answer.Settled _) (λ _. refl) (λ _. refl)))
@@ -151,7 +151,7 @@ confirmed-decides node =
 table-decides : (node : Node) → Decides ofMessage (tableCounted node)
 unfolding tableCounted nodeRecover stopped sendStore isRefused
 table-decides node =
-    by-cond (Decides ofMessage) (ltb (countPeers (node .counted)) (suc (half (node .n)))) _ _
+    by-cond (Decides ofMessage) (atMostHalf node) _ _
     (λ _. by-ok ofMessage node _)
     (λ _. by-cond (Decides ofMessage) (hasConflict node) _ _
     (λ _. by-none ofMessage (stopped node) refl)

@@ -1,11 +1,10 @@
 -- Delivery keeps every number of a node within its width, and sends only numbers that fit, if the message and the items
 -- beside it fit.
-use Prim.Native.Nat.{ℕ, suc}
+use Prim.Native.Nat.{ℕ}
 use native.Mathlib.Omega.{arith}
 use mathlib.Core.Path.{_≡_, refl, _∙_}
 use mathlib.Core.Bool.{Bool, true, cond, _&&_}
 use mathlib.Core.List.{List}
-use lib.Dec.{ltb}
 use lib.ListN.{getD}
 use Rattle.item.specs.Counter.{sameIncarnation}
 use Rattle.item.specs.Item.{zeroItem}
@@ -25,7 +24,7 @@ use Rattle.protocol.specs.Answer.{ok, refused}
 use Rattle.protocol.specs.Deliver.{onMessage, deliverStep}
 use Rattle.protocol.specs.Fetching.{onFetch, onTable, tableCounted, withTable, noneCounted, nodeRecover, hasConflict, stopped, writtenBack}
 use Rattle.protocol.specs.Merge.{mergeRows}
-use Rattle.protocol.specs.Node.{noPeer, half, rowOf, ownItem, storedRow, peerOf, countPeers, blankNode, crashed, withRow, withCounted, confirmingBegun, writeEnded, withRows}
+use Rattle.protocol.specs.Node.{noPeer, rowOf, ownItem, storedRow, peerOf, blankNode, crashed, withRow, withCounted, confirmingBegun, writeEnded, withRows, belowHalf, atMostHalf}
 use Rattle.protocol.specs.Outgoing.{messageTo}
 use Rattle.protocol.specs.Phase.{isUp, isFetching, isStoring, isConfirming}
 use Rattle.protocol.specs.Storing.{storeVerdict, replyStore, onStore, ownWrite, isCounted, sendConfirm, storedCounted, onStored, storedUnder, onConfirm, askedUnder, storeSuccess, confirmedCounted, onConfirmed}
@@ -103,20 +102,20 @@ module _ (node : Node) (N : NodeFits node) where
   stored-fits : StepFits node (storedCounted node)
   unfolding storedCounted
   stored-fits =
-      by-cond (StepFits node) (ltb (countPeers (node .counted)) (half (node .n))) _ _
+      by-cond (StepFits node) (belowHalf node) _ _
       (λ _. by-quiet node node refl refl N) (λ _. asked-fits node N _)
 
   confirmed-fits : StepFits node (confirmedCounted node)
   unfolding confirmedCounted storeSuccess writeEnded messageTo
   confirmed-fits =
-      by-cond (StepFits node) (ltb (countPeers (node .counted)) (half (node .n))) _ _
+      by-cond (StepFits node) (belowHalf node) _ _
       (λ _. by-quiet node node refl refl N)
       (λ _. record { same-number = refl; same-size = refl; node-fits = ended-fits node N; sends-fit = λ _. fetch-fits node N })
 
   table-fits : StepFits node (tableCounted node)
   unfolding tableCounted nodeRecover stopped writtenBack crashed blankNode messageTo
   table-fits =
-      by-cond (StepFits node) (ltb (countPeers (node .counted)) (suc (half (node .n)))) _ _
+      by-cond (StepFits node) (atMostHalf node) _ _
       (λ _. by-quiet node node refl refl N)
       (λ _. by-cond (StepFits node) (hasConflict node) _ _
       (λ _. record { same-number = refl; same-size = refl; node-fits = crashed-fits node N; sends-fit = λ _. fetch-fits node N })

@@ -1,16 +1,15 @@
 -- Delivery of Fetch and Table to one node (document 01, Deliver): the recovery.
-use Prim.Native.Nat.{ℕ, suc}
-use mathlib.Core.Bool.{Bool, true, false, cond}
+use Prim.Native.Nat.{ℕ}
+use mathlib.Core.Bool.{Bool, cond}
 use mathlib.Core.List.{List}
 use lib.Dec.{ltb, eqb}
-use Rattle.item.specs.Counter.{sameIncarnation}
 use Rattle.item.specs.Maxima.{maxNodes}
 use Rattle.item.specs.declared.Incarnation.{Incarnation}
 use Rattle.item.specs.declared.Item.{Item}
 use Rattle.message.specs.declared.Message.the-variants as message
 use Rattle.protocol.specs.Answer.{ok, refused}
 use Rattle.protocol.specs.Merge.{mergeRows, lowestMarked}
-use Rattle.protocol.specs.Node.{half, ownItem, countPeers, crashed, storingBegun, withCounted, withRows}
+use Rattle.protocol.specs.Node.{ownItem, countPeers, crashed, storingBegun, withCounted, withRows, atMostHalf, ownIncarnation}
 use Rattle.protocol.specs.Phase.{isUp, isFetching}
 use Rattle.protocol.specs.Storing.{isCounted}
 use Rattle.protocol.specs.Write.{sendStore}
@@ -57,13 +56,13 @@ nodeRecover node = cond (hasConflict node) (stopped node) (sendStore (writtenBac
 -- the sender's table is counted. "At f+1"
 unfoldable pub tableCounted : Node → Step
 tableCounted node =
-    cond (ltb (countPeers (node .counted)) (suc (half (node .n)))) (ok node sends.Nothing) (nodeRecover node)
+    cond (atMostHalf node) (ok node sends.Nothing) (nodeRecover node)
 
 -- "Table, at Fetching. 10: other incarnation not its own. 11: sender counted."
 unfoldable pub onTable : Node → ℕ → Incarnation → Incarnation → List Item → Step
 onTable node sender incarnation other items =
     cond (isFetching (node .phase))
-    (cond (sameIncarnation other (node .incarnation))
+    (cond (ownIncarnation node other)
     (cond (isCounted node sender) (refused node Counted) (tableCounted (withTable node sender incarnation items)))
     (refused node Stale))
     (refused node NotTaken)

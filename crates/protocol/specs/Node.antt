@@ -3,9 +3,10 @@
 use Prim.Native.Nat.{ℕ, zero, suc, _/_}
 use mathlib.Core.Bool.{Bool, true, false, cond}
 use mathlib.Core.List.{List, [], _∷_}
+use lib.Dec.{ltb}
 use lib.ListN.{getD, set, replicate}
 use Rattle.item.specs.Maxima.{maxNodes}
-use Rattle.item.specs.Counter.{nextIncarnation}
+use Rattle.item.specs.Counter.{nextIncarnation, sameIncarnation}
 use Rattle.item.specs.Row.{zeroRow}
 use Rattle.item.specs.declared.Attempt.{Attempt}
 use Rattle.item.specs.declared.Incarnation.{Incarnation}
@@ -56,6 +57,18 @@ peerOf peers i = getD peers i noPeer
 unfoldable pub countPeers : List Peer → ℕ
 countPeers [] = zero
 countPeers (peer ∷ peers) = cond (peer .present) (suc (countPeers peers)) (countPeers peers)
+
+-- fewer than f are counted: not yet "At f counted", "At f"
+abbrev pub belowHalf : Node → Bool
+belowHalf node = ltb (countPeers (node .counted)) (half (node .n))
+
+-- f or fewer are counted: not yet "At f+1"
+abbrev pub atMostHalf : Node → Bool
+atMostHalf node = ltb (countPeers (node .counted)) (suc (half (node .n)))
+
+-- "other incarnation .. its own"
+abbrev pub ownIncarnation : Node → Incarnation → Bool
+ownIncarnation node other = sameIncarnation other (node .incarnation)
 
 -- Crash, and "stopped": "Down; only number, n and incarnation remain"
 unfoldable pub blankNode : ℕ → ℕ → Incarnation → Node

@@ -1,8 +1,7 @@
 -- Delivery of Store, Stored, Confirm and Confirmed to one node (document 01, Deliver): the two rounds of a write.
 -- The sender and its incarnation are the envelope's.
 use Prim.Native.Nat.{ℕ}
-use mathlib.Core.Bool.{Bool, true, false, cond, _&&_}
-use lib.Dec.{ltb}
+use mathlib.Core.Bool.{Bool, cond, _&&_}
 use Rattle.item.specs.Counter.{sameIncarnation, sameAttempt, earlier}
 use Rattle.item.specs.Item.{ranksBelow, sameItem}
 use Rattle.item.specs.declared.Attempt.{Attempt}
@@ -11,7 +10,7 @@ use Rattle.item.specs.declared.Item.{Item}
 use Rattle.item.specs.declared.Row.{Row}
 use Rattle.message.specs.declared.Message.the-variants as message
 use Rattle.protocol.specs.Answer.{ok, refused}
-use Rattle.protocol.specs.Node.{half, rowOf, ownItem, storedRow, peerOf, countPeers, withRow, withCounted, confirmingBegun, writeEnded}
+use Rattle.protocol.specs.Node.{rowOf, ownItem, storedRow, peerOf, withRow, withCounted, confirmingBegun, writeEnded, belowHalf, ownIncarnation}
 use Rattle.protocol.specs.Phase.{isUp, isStoring, isConfirming, isReturning, atStage}
 use Rattle.protocol.specs.declared.Answer.{Answer}
 use Rattle.protocol.specs.declared.Answer.the-variants as answer
@@ -63,7 +62,7 @@ sendConfirm node = ok node (sends.Asked (node .attempt) (ownItem node))
 -- the sender is counted. "At f counted: Confirming"
 unfoldable pub storedCounted : Node → Step
 storedCounted node =
-    cond (ltb (countPeers (node .counted)) (half (node .n))) (ok node sends.Nothing)
+    cond (belowHalf node) (ok node sends.Nothing)
     (sendConfirm (confirmingBegun node (atStage (node .phase) Confirming)))
 
 -- "Stored, at Storing. 10: other incarnation, attempt or item not its own present ones. 11: sender counted."
@@ -86,7 +85,7 @@ storedUnder row incarnation attempt item =
 unfoldable pub onConfirm : Node → ℕ → Incarnation → Incarnation → Attempt → Item → Step
 onConfirm node sender incarnation other attempt item =
     cond (isUp (node .phase))
-    (cond (sameIncarnation other (node .incarnation) && storedUnder (rowOf node sender) incarnation attempt item)
+    (cond (ownIncarnation node other && storedUnder (rowOf node sender) incarnation attempt item)
     (ok node (sends.Back (message.Confirmed incarnation attempt item)))
     (refused node Stale))
     (refused node NotTaken)
@@ -108,7 +107,7 @@ storeSuccess node =
 -- the sender is counted. "At f: Idle"
 unfoldable pub confirmedCounted : Node → Step
 confirmedCounted node =
-    cond (ltb (countPeers (node .counted)) (half (node .n))) (ok node sends.Nothing) (storeSuccess node)
+    cond (belowHalf node) (ok node sends.Nothing) (storeSuccess node)
 
 -- "Confirmed, at Confirming. 10: as for Stored, or the sender not one of the f under the recorded incarnation. 11: counted."
 unfoldable pub onConfirmed : Node → ℕ → Incarnation → Incarnation → Attempt → Item → Step

@@ -165,24 +165,24 @@ module _ {M : Type 1} (𝓤 : URA M) (H : Heap 𝓤) (A : Atoms 𝓤) (W : Given
       turns : (i : Upto) → Sq W (At l₀ l₁ l₂ l₃ l₄ l₅ l₆ l₇ l₈ i) (runs C Λ (En l₀ l₁ l₂ l₃ l₄ l₅ l₆ l₇ l₈) body.turn-1 (anyQ (Turned l₀ l₁ l₂ l₃ l₄ l₅ l₆ l₇ l₈ i)))
       unfolding afterTurn
       turns i =
-        assigns ! (of-opd ! (load ! (from ! (fld ! refl (stop !))) (look-in ! 14 (sub ! 1 refl (whole !))))) (from ! (stop !)) (init ! 4 refl (tt, record { fits = room .0 })) $
-        assigns ! (bin ! (load ! (from ! (stop !)) (look ! 8 refl)) (load ! (from ! (stop !)) (look ! 4 refl)) tt) (from ! (stop !)) (init ! 2 refl (tt, tt)) $
-        first ! $ branches ! (load ! (from ! (stop !)) (look ! 2 refl))
-        (λ less. skips ! $ exec ! C Λ (En l₀ l₁ l₂ l₃ l₄ l₅ l₆ l₇ l₈) (after (after (after body.turn-1))) (anyQ (Turned l₀ l₁ l₂ l₃ l₄ l₅ l₆ l₇ l₈ i)) $
-        move ! (19 ∷ []) $ use1 W (‵ Own ⊛ ‵ Own) (shr-slice-copy 𝓤 H A W (named 0) κ T.the-row .twice x (s ∷ [])) $ split ! $ move ! (20 ∷ 1 ∷ []) $ use2 W (raw (NodeAt 𝓤 H A mem run .pre (to-at (i .0)))) (goes-at (i .0) (fits i) (ltb→lt (i .0) (length ys) less)) $ calls-at ! fm (NodeAt 𝓤 H A mem run) known-at (to-at (i .0)) (and-then ! (load ! (from ! (stop !)) (look ! 16 refl)) (and-then ! (load ! (from ! (stop !)) (look ! 10 refl)) (no-more !))) (λ w₁.
-        use1 W (later (some (λ (r : Node). ((‵ (flft κ q) ⊛ ‵ ftrue) ⊛ ‵ (T.the-row .own r (w₁ ∷ []))) ⊛ raw (ensured 𝓤 H A node-at.ended (node-at.clauses 𝓤 H A mem run) (κ, tt) (x, (i .0, tt)) tt r)))) (id⊢ 𝓤 _) $ await ! tt $ pick ! (λ r₁. split ! $ move ! (1 ∷ []) $
-        use1 W (raw (fact 𝓤 (r₁ ≡ getD ys (i .0) noNode))) (at-of 𝓤 H A mem run κ x (i .0) r₁) $ heard ! (r₁ ≡ getD ys (i .0) noNode) (λ e₁. split ! $ split ! $ move ! (2 ∷ []) $ peeks ! T.the-row (Is T.the-row) (shows 𝓤 H A T.the-row) r₁ (w₁ ∷ []) (λ is₁. land ! (from ! (stop !)) (init ! 4 refl (LL.lawful T.the-type T′.the-laws 𝓤 H A W .typed r₁ _ is₁ .0)) $
-        use1 W (raw (AndSound 𝓤 H A mem run .pre (to-check r₁ w₁ (i .0)))) (goes-check r₁ w₁ (i .0) (fits i) gn) $ calls-at ! fm (AndSound 𝓤 H A mem run) known-check (to-check r₁ w₁ (i .0)) (and-then ! (load ! (from ! (stop !)) (look ! 14 refl)) (and-then ! (load ! (from ! (stop !)) (look ! 4 refl)) (and-then ! (load ! (from ! (stop !)) (look ! 12 refl)) (and-then ! (load ! (from ! (stop !)) (look ! 16 refl)) (no-more !))))) (λ w₂.
-        use1 W (later (some (λ (r : Bool). (‵ ftrue ⊛ ‵ (bool .own r (w₂ ∷ []))) ⊛ raw (ensured 𝓤 H A and-sound.ended (and-sound.clauses 𝓤 H A mem run) tt (soundTo n ys (i .0), (r₁, (i .0, (n, tt)))) tt r)))) (id⊢ 𝓤 _) $ await ! tt $ pick ! (λ r₂. split ! $ move ! (1 ∷ []) $
-        use1 W (raw (fact 𝓤 (r₂ ≡ soundTo n ys (i .0) && soundNode n (i .0) r₁))) (check-of 𝓤 H A mem run (soundTo n ys (i .0)) r₁ (i .0) n r₂) $ heard ! (r₂ ≡ soundTo n ys (i .0) && soundNode n (i .0) r₁) (λ e₂. split ! $ move ! (1 ∷ []) $ peeks ! bool (Is bool) (shows 𝓤 H A bool) r₂ (w₂ ∷ []) (λ is₂. land ! (from ! (stop !)) (store ! 15 refl (bool-lawful 𝓤 H A W .typed r₂ _ is₂ .0)) $
-        rewrite ! 15 (λ (u : Val). ‵ (fat fullShare (τ 3) l₃ 0 u)) (ap only is₂ ∙ ap vbool (ok-step n ys (i .0) r₁ r₂ e₁ e₂)) refl $
-        assigns-last ! (bin ! (load ! (from ! (stop !)) (look ! 13 refl)) (lit ! tt) (record { fits = fits (next less) })) (from ! (stop !)) (store ! 13 refl (tt, record { fits = fits (next less) })) $
-        forget ! 9 refl $ forget ! 7 refl $ forget ! 5 refl $ keep ! (5 ∷ 6 ∷ 7 ∷ 8 ∷ 9 ∷ 10 ∷ 11 ∷ 12 ∷ 13 ∷ 14 ∷ 15 ∷ 16 ∷ 17 ∷ 18 ∷ 19 ∷ 20 ∷ 21 ∷ 22 ∷ 2 ∷ 4 ∷ []) $ again ! Nearer (At l₀ l₁ l₂ l₃ l₄ l₅ l₆ l₇ l₈) i (next less) (add-one-dec (length ys) (i .0) (ltb→lt (i .0) (length ys) less)))))))))))
-        (λ over. jumps ! $ exec ! C Λ (En l₀ l₁ l₂ l₃ l₄ l₅ l₆ l₇ l₈) body.t-5 (atRet (En l₀ l₁ l₂ l₃ l₄ l₅ l₆ l₇ l₈) Post) $
-        assigns ! (of-opd ! (load ! (from ! (stop !)) (look ! 10 refl))) (from ! (stop !)) (init ! 16 refl (tt, tt)) $
-        returns ! (look ! 16 refl) $ forget ! 2 refl $ forget ! 4 refl $ forget ! 6 refl $ forget ! 8 refl $ forget ! 10 refl $ forget ! 12 refl $ forget ! 14 refl $ forget ! 16 refl $ 
-        move ! (16 ∷ 17 ∷ []) $ free1 ! $ move ! (14 ∷ 15 ∷ []) $ free1 ! $ move ! (12 ∷ 13 ∷ []) $ free1 ! $ move ! (10 ∷ 11 ∷ []) $ free1 ! $ move ! (8 ∷ 9 ∷ []) $ free1 ! $ move ! (6 ∷ 7 ∷ []) $ free1 ! $ move ! (4 ∷ 5 ∷ []) $ free1 ! $ move ! (2 ∷ 3 ∷ []) $ free1 ! $ free1 ! $ free0 ! $
-        keep ! (0 ∷ 1 ∷ []) $ by ! (exits (i .0) (le-antisymm (i .1) (nltb→le (i .0) (length ys) over)) gn))
+          assigns ! (of-opd ! (load ! (from ! (fld ! refl (stop !))) (look-in ! 14 (sub ! 1 refl (whole !))))) (from ! (stop !)) (init ! 4 refl (tt, record { fits = room .0 })) $
+          assigns ! (bin ! (load ! (from ! (stop !)) (look ! 8 refl)) (load ! (from ! (stop !)) (look ! 4 refl)) tt) (from ! (stop !)) (init ! 2 refl (tt, tt)) $
+          first ! $ branches ! (load ! (from ! (stop !)) (look ! 2 refl))
+          (λ less. skips ! $ exec ! C Λ (En l₀ l₁ l₂ l₃ l₄ l₅ l₆ l₇ l₈) (after (after (after body.turn-1))) (anyQ (Turned l₀ l₁ l₂ l₃ l₄ l₅ l₆ l₇ l₈ i)) $
+          move ! (19 ∷ []) $ use1 W (‵ Own ⊛ ‵ Own) (shr-slice-copy 𝓤 H A W (named 0) κ T.the-row .twice x (s ∷ [])) $ split ! $ move ! (20 ∷ 1 ∷ []) $ use2 W (raw (NodeAt 𝓤 H A mem run .pre (to-at (i .0)))) (goes-at (i .0) (fits i) (ltb→lt (i .0) (length ys) less)) $ calls-at ! fm (NodeAt 𝓤 H A mem run) known-at (to-at (i .0)) (and-then ! (load ! (from ! (stop !)) (look ! 16 refl)) (and-then ! (load ! (from ! (stop !)) (look ! 10 refl)) (no-more !))) (λ w₁.
+          use1 W (later (some (λ (r : Node). ((‵ (flft κ q) ⊛ ‵ ftrue) ⊛ ‵ (T.the-row .own r (w₁ ∷ []))) ⊛ raw (ensured 𝓤 H A node-at.ended (node-at.clauses 𝓤 H A mem run) (κ, tt) (x, (i .0, tt)) tt r)))) (id⊢ 𝓤 _) $ await ! tt $ pick ! (λ r₁. split ! $ move ! (1 ∷ []) $
+          use1 W (raw (fact 𝓤 (r₁ ≡ getD ys (i .0) noNode))) (at-of 𝓤 H A mem run κ x (i .0) r₁) $ heard ! (r₁ ≡ getD ys (i .0) noNode) (λ e₁. split ! $ split ! $ move ! (2 ∷ []) $ peeks ! T.the-row (Is T.the-row) (shows 𝓤 H A T.the-row) r₁ (w₁ ∷ []) (λ is₁. land ! (from ! (stop !)) (init ! 4 refl (LL.lawful T.the-type T′.the-laws 𝓤 H A W .typed r₁ _ is₁ .0)) $
+          use1 W (raw (AndSound 𝓤 H A mem run .pre (to-check r₁ w₁ (i .0)))) (goes-check r₁ w₁ (i .0) (fits i) gn) $ calls-at ! fm (AndSound 𝓤 H A mem run) known-check (to-check r₁ w₁ (i .0)) (and-then ! (load ! (from ! (stop !)) (look ! 14 refl)) (and-then ! (load ! (from ! (stop !)) (look ! 4 refl)) (and-then ! (load ! (from ! (stop !)) (look ! 12 refl)) (and-then ! (load ! (from ! (stop !)) (look ! 16 refl)) (no-more !))))) (λ w₂.
+          use1 W (later (some (λ (r : Bool). (‵ ftrue ⊛ ‵ (bool .own r (w₂ ∷ []))) ⊛ raw (ensured 𝓤 H A and-sound.ended (and-sound.clauses 𝓤 H A mem run) tt (soundTo n ys (i .0), (r₁, (i .0, (n, tt)))) tt r)))) (id⊢ 𝓤 _) $ await ! tt $ pick ! (λ r₂. split ! $ move ! (1 ∷ []) $
+          use1 W (raw (fact 𝓤 (r₂ ≡ soundTo n ys (i .0) && soundNode n (i .0) r₁))) (check-of 𝓤 H A mem run (soundTo n ys (i .0)) r₁ (i .0) n r₂) $ heard ! (r₂ ≡ soundTo n ys (i .0) && soundNode n (i .0) r₁) (λ e₂. split ! $ move ! (1 ∷ []) $ peeks ! bool (Is bool) (shows 𝓤 H A bool) r₂ (w₂ ∷ []) (λ is₂. land ! (from ! (stop !)) (store ! 15 refl (bool-lawful 𝓤 H A W .typed r₂ _ is₂ .0)) $
+          rewrite ! 15 (λ (u : Val). ‵ (fat fullShare (τ 3) l₃ 0 u)) (ap only is₂ ∙ ap vbool (ok-step n ys (i .0) r₁ r₂ e₁ e₂)) refl $
+          assigns-last ! (bin ! (load ! (from ! (stop !)) (look ! 13 refl)) (lit ! tt) (record { fits = fits (next less) })) (from ! (stop !)) (store ! 13 refl (tt, record { fits = fits (next less) })) $
+          forget ! 9 refl $ forget ! 7 refl $ forget ! 5 refl $ keep ! (5 ∷ 6 ∷ 7 ∷ 8 ∷ 9 ∷ 10 ∷ 11 ∷ 12 ∷ 13 ∷ 14 ∷ 15 ∷ 16 ∷ 17 ∷ 18 ∷ 19 ∷ 20 ∷ 21 ∷ 22 ∷ 2 ∷ 4 ∷ []) $ again ! Nearer (At l₀ l₁ l₂ l₃ l₄ l₅ l₆ l₇ l₈) i (next less) (add-one-dec (length ys) (i .0) (ltb→lt (i .0) (length ys) less)))))))))))
+          (λ over. jumps ! $ exec ! C Λ (En l₀ l₁ l₂ l₃ l₄ l₅ l₆ l₇ l₈) body.t-5 (atRet (En l₀ l₁ l₂ l₃ l₄ l₅ l₆ l₇ l₈) Post) $
+          assigns ! (of-opd ! (load ! (from ! (stop !)) (look ! 10 refl))) (from ! (stop !)) (init ! 16 refl (tt, tt)) $
+          returns ! (look ! 16 refl) $ forget ! 2 refl $ forget ! 4 refl $ forget ! 6 refl $ forget ! 8 refl $ forget ! 10 refl $ forget ! 12 refl $ forget ! 14 refl $ forget ! 16 refl $
+          move ! (16 ∷ 17 ∷ []) $ free1 ! $ move ! (14 ∷ 15 ∷ []) $ free1 ! $ move ! (12 ∷ 13 ∷ []) $ free1 ! $ move ! (10 ∷ 11 ∷ []) $ free1 ! $ move ! (8 ∷ 9 ∷ []) $ free1 ! $ move ! (6 ∷ 7 ∷ []) $ free1 ! $ move ! (4 ∷ 5 ∷ []) $ free1 ! $ move ! (2 ∷ 3 ∷ []) $ free1 ! $ free1 ! $ free0 ! $
+          keep ! (0 ∷ 1 ∷ []) $ by ! (exits (i .0) (le-antisymm (i .1) (nltb→le (i .0) (length ys) over)) gn))
         where
           fits : (j : Upto) → j .0 < 2 ^ 64
           fits j = lt-of-le-of-lt (j .1) (room .0)

@@ -172,31 +172,31 @@ module _ {M : Type 1} (𝓤 : URA M) (H : Heap 𝓤) (A : Atoms 𝓤) (W : Given
       turns : (i : Upto) → Sq W (At l₀ l₁ l₂ l₃ l₄ l₅ l₆ l₇ l₈ l₉ i) (runs C Λ (En l₀ l₁ l₂ l₃ l₄ l₅ l₆ l₇ l₈ l₉) body.turn-1 (anyQ (Turned l₀ l₁ l₂ l₃ l₄ l₅ l₆ l₇ l₈ l₉ i)))
       unfolding afterTurn
       turns i =
-        assigns ! (of-opd ! (load ! (from ! (fld ! refl (stop !))) (look-in ! 16 (sub ! 1 refl (whole !))))) (from ! (stop !)) (init ! 10 refl (tt, record { fits = room .0 })) $
-        assigns ! (bin ! (load ! (from ! (stop !)) (look ! 12 refl)) (load ! (from ! (stop !)) (look ! 10 refl)) tt) (from ! (stop !)) (init ! 8 refl (tt, tt)) $
-        first ! $ branches ! (load ! (from ! (stop !)) (look ! 8 refl))
-        (λ less. skips ! $ exec ! C Λ (En l₀ l₁ l₂ l₃ l₄ l₅ l₆ l₇ l₈ l₉) (after (after (after body.turn-1))) (anyQ (Turned l₀ l₁ l₂ l₃ l₄ l₅ l₆ l₇ l₈ l₉ i)) $
-        assigns ! (addr ! (from ! (fld ! refl (hop ! (look-in ! 16 (sub ! 0 refl (whole !))) (stop !))))) (from ! (stop !)) (init ! 4 refl (tt, tt)) $
-        assigns ! (agg ! (and-then ! (load ! (from ! (stop !)) (look ! 4 refl)) (and-then ! (load ! (from ! (fld ! refl (stop !))) (look-in ! 16 (sub ! 1 refl (whole !)))) (no-more !)))) (from ! (stop !)) (init ! 2 refl (tt, (tt, (record { fits = room .0 }, tt)))) $
-        nothing ! $ use1 W (raw (Fresh 𝓤 H A mem run .pre (to-fresh (i .0)))) (goes-fresh (i .0) (fits i) gn) $ calls-at ! fm (Fresh 𝓤 H A mem run) known-fresh (to-fresh (i .0)) (and-then ! (load ! (from ! (stop !)) (look ! 13 refl)) (and-then ! (load ! (from ! (stop !)) (look ! 15 refl)) (no-more !))) (λ w₁.
-        use1 W (later (some (λ (r : Node). (‵ ftrue ⊛ ‵ (T.the-row .own r (w₁ ∷ []))) ⊛ raw (ensured 𝓤 H A fresh.ended (fresh.clauses 𝓤 H A mem run) tt (i .0, (n, tt)) tt r)))) (id⊢ 𝓤 _) $ await ! tt $ pick ! (λ r₁. split ! $ move ! (1 ∷ []) $
-        use1 W (raw (fact 𝓤 (r₁ ≡ freshNode (i .0) n))) (fresh-of 𝓤 H A mem run (i .0) n r₁) $ heard ! (r₁ ≡ freshNode (i .0) n) (λ e₁. split ! $ move ! (1 ∷ []) $ peeks ! T.the-row (Is T.the-row) (shows 𝓤 H A T.the-row) r₁ (w₁ ∷ []) (λ is₁. land ! (from ! (stop !)) (init ! 2 refl (LL.lawful T.the-type T′.the-laws 𝓤 H A W .typed r₁ _ is₁ .0)) $
-        lft-new ! tt (λ ν. move ! (24 ∷ 23 ∷ []) $ use2 W (later (some (λ (δ : GName). ‵ (MutSlice (named 0) (ν ∷ []) T.the-row .own (x δ (now-at i)) (sv (now-at i) ∷ [])) ⊛ ‵ (LentAgain T.the-row κ (ν ∷ []) q γ b o δ (now-at i))))) (lends-again T.the-row κ (ν ∷ []) q γ b o 𝓤 H A W (named 0) (named 0) (now-at i)) $ await ! tt $ pick ! (λ δ. split ! $
-        move ! (2 ∷ 0 ∷ 3 ∷ []) $ use3 W (raw (Replace 𝓤 H A mem run .pre (to-replace i ν δ r₁ w₁))) (goes-replace i ν δ r₁ w₁ (fits i)) $ rewrite ! 5 (λ (k : ℕ). ‵ (fat fullShare (τ 8) l₈ 0 (sliceVal (b, o) k))) (sym (fill-length ys n (i .0))) refl $
-        calls-at ! fm (Replace 𝓤 H A mem run) known-replace (to-replace i ν δ r₁ w₁) (and-then ! (load ! (from ! (stop !)) (look ! 5 refl)) (and-then ! (load ! (from ! (stop !)) (look ! 15 refl)) (and-then ! (load ! (from ! (stop !)) (look ! 3 refl)) (no-more !)))) (λ w₂.
-        use1 W (later (some (λ (r : Unit {0}). ((‵ (flft (ν ∷ []) fullShare) ⊛ ‵ ftrue) ⊛ ‵ (Nothing .own r (w₂ ∷ []))) ⊛ raw (ensured 𝓤 H A replace.ended (replace.clauses 𝓤 H A mem run) (ν ∷ [], tt) (x δ (now-at i), (i .0, (r₁, tt))) tt r)))) (id⊢ 𝓤 _) $ await ! tt $ pick ! (λ r₂. split ! $ move ! (1 ∷ []) $
-        use1 W (some (λ (zs : List Node × (Unit {0} × (Unit {0} × Unit {0}))). ‵ (lasts replace.ended (ν ∷ [], tt) (x δ (now-at i), (i .0, (r₁, tt))) zs) ⊛ raw (fact 𝓤 (zs .0 ≡ set (now-at i) (i .0) r₁)))) (id⊢ 𝓤 _) $ pick ! (λ zs. split ! $ move ! (1 ∷ []) $
-        heard ! (zs .0 ≡ set (now-at i) (i .0) r₁) (λ e₂. fsplit ! $ fsplit ! $ move ! (1 ∷ []) $ feqL ! (λ same. move ! (2 ∷ []) $ split ! $ split ! $ move ! (2 ∷ []) $ peeks ! Nothing (Is Nothing) (shows 𝓤 H A Nothing) r₂ (w₂ ∷ []) (λ is₂. land ! (from ! (stop !)) (init ! 13 refl (nothing-lawful 𝓤 H A W .typed r₂ _ is₂ .0)) $
-        move ! (1 ∷ []) $ lft-end ! tt $ move ! (0 ∷ 5 ∷ 3 ∷ []) $ use3 W (later (‵ (MutSlice (named 0) κ T.the-row .own (x γ (zs .0)) (sv (now-at i) ∷ [])) ⊛ ‵ (flft κ q))) (comes-back T.the-row κ (ν ∷ []) q γ b o 𝓤 H A W (named 0) (named 0) (now-at i) δ (zs .0) (room-at i) same) $ await ! tt $ split ! $
-        rewrite ! 0 (λ (k : ℕ). ‵ (MutSlice (named 0) κ T.the-row .own (x γ (zs .0)) (sliceVal (b, o) k ∷ []))) (sym same) refl $
-        rewrite ! 0 (λ (t : List Node). ‵ (MutSlice (named 0) κ T.the-row .own (x γ t) (sv t ∷ []))) (fill-step ys n (i .0) r₁ (zs .0) e₁ e₂) refl $
-        assigns-last ! (bin ! (load ! (from ! (stop !)) (look ! 18 refl)) (lit ! tt) (record { fits = fits (next less) })) (from ! (stop !)) (store ! 18 refl (tt, record { fits = fits (next less) })) $
-        forget ! 16 refl $ forget ! 14 refl $ forget ! 12 refl $ forget ! 10 refl $ forget ! 8 refl $ forget ! 6 refl $ keep ! (6 ∷ 7 ∷ 8 ∷ 9 ∷ 10 ∷ 11 ∷ 12 ∷ 13 ∷ 14 ∷ 15 ∷ 16 ∷ 17 ∷ 18 ∷ 19 ∷ 20 ∷ 21 ∷ 22 ∷ 23 ∷ 24 ∷ 25 ∷ 1 ∷ 0 ∷ []) $ again ! Nearer (At l₀ l₁ l₂ l₃ l₄ l₅ l₆ l₇ l₈ l₉) i (next less) (add-one-dec (length ys) (i .0) (ltb→lt (i .0) (length ys) less)))))))))))))))
-        (λ over. jumps ! $ exec ! C Λ (En l₀ l₁ l₂ l₃ l₄ l₅ l₆ l₇ l₈ l₉) body.t-3 (atRet (En l₀ l₁ l₂ l₃ l₄ l₅ l₆ l₇ l₈ l₉) Post) $
-        assigns ! (of-opd ! (unit-lit !)) (from ! (stop !)) (init ! 18 refl (tt, tt)) $
-        returns ! (look ! 18 refl) $ forget ! 8 refl $ forget ! 10 refl $ forget ! 12 refl $ forget ! 14 refl $ forget ! 16 refl $ forget ! 18 refl $ 
-        move ! (18 ∷ 19 ∷ []) $ free1 ! $ move ! (16 ∷ 17 ∷ []) $ free1 ! $ move ! (14 ∷ 15 ∷ []) $ free1 ! $ move ! (12 ∷ 13 ∷ []) $ free1 ! $ move ! (10 ∷ 11 ∷ []) $ free1 ! $ move ! (8 ∷ 9 ∷ []) $ free1 ! $ move ! (6 ∷ 7 ∷ []) $ free1 ! $ move ! (4 ∷ 5 ∷ []) $ free1 ! $ move ! (2 ∷ 3 ∷ []) $ free1 ! $ free1 ! $ free0 ! $
-        keep ! (0 ∷ 1 ∷ []) $ by ! (exits (i .0) (le-antisymm (i .1) (nltb→le (i .0) (length ys) over)) room gn))
+          assigns ! (of-opd ! (load ! (from ! (fld ! refl (stop !))) (look-in ! 16 (sub ! 1 refl (whole !))))) (from ! (stop !)) (init ! 10 refl (tt, record { fits = room .0 })) $
+          assigns ! (bin ! (load ! (from ! (stop !)) (look ! 12 refl)) (load ! (from ! (stop !)) (look ! 10 refl)) tt) (from ! (stop !)) (init ! 8 refl (tt, tt)) $
+          first ! $ branches ! (load ! (from ! (stop !)) (look ! 8 refl))
+          (λ less. skips ! $ exec ! C Λ (En l₀ l₁ l₂ l₃ l₄ l₅ l₆ l₇ l₈ l₉) (after (after (after body.turn-1))) (anyQ (Turned l₀ l₁ l₂ l₃ l₄ l₅ l₆ l₇ l₈ l₉ i)) $
+          assigns ! (addr ! (from ! (fld ! refl (hop ! (look-in ! 16 (sub ! 0 refl (whole !))) (stop !))))) (from ! (stop !)) (init ! 4 refl (tt, tt)) $
+          assigns ! (agg ! (and-then ! (load ! (from ! (stop !)) (look ! 4 refl)) (and-then ! (load ! (from ! (fld ! refl (stop !))) (look-in ! 16 (sub ! 1 refl (whole !)))) (no-more !)))) (from ! (stop !)) (init ! 2 refl (tt, (tt, (record { fits = room .0 }, tt)))) $
+          nothing ! $ use1 W (raw (Fresh 𝓤 H A mem run .pre (to-fresh (i .0)))) (goes-fresh (i .0) (fits i) gn) $ calls-at ! fm (Fresh 𝓤 H A mem run) known-fresh (to-fresh (i .0)) (and-then ! (load ! (from ! (stop !)) (look ! 13 refl)) (and-then ! (load ! (from ! (stop !)) (look ! 15 refl)) (no-more !))) (λ w₁.
+          use1 W (later (some (λ (r : Node). (‵ ftrue ⊛ ‵ (T.the-row .own r (w₁ ∷ []))) ⊛ raw (ensured 𝓤 H A fresh.ended (fresh.clauses 𝓤 H A mem run) tt (i .0, (n, tt)) tt r)))) (id⊢ 𝓤 _) $ await ! tt $ pick ! (λ r₁. split ! $ move ! (1 ∷ []) $
+          use1 W (raw (fact 𝓤 (r₁ ≡ freshNode (i .0) n))) (fresh-of 𝓤 H A mem run (i .0) n r₁) $ heard ! (r₁ ≡ freshNode (i .0) n) (λ e₁. split ! $ move ! (1 ∷ []) $ peeks ! T.the-row (Is T.the-row) (shows 𝓤 H A T.the-row) r₁ (w₁ ∷ []) (λ is₁. land ! (from ! (stop !)) (init ! 2 refl (LL.lawful T.the-type T′.the-laws 𝓤 H A W .typed r₁ _ is₁ .0)) $
+          lft-new ! tt (λ ν. move ! (24 ∷ 23 ∷ []) $ use2 W (later (some (λ (δ : GName). ‵ (MutSlice (named 0) (ν ∷ []) T.the-row .own (x δ (now-at i)) (sv (now-at i) ∷ [])) ⊛ ‵ (LentAgain T.the-row κ (ν ∷ []) q γ b o δ (now-at i))))) (lends-again T.the-row κ (ν ∷ []) q γ b o 𝓤 H A W (named 0) (named 0) (now-at i)) $ await ! tt $ pick ! (λ δ. split ! $
+          move ! (2 ∷ 0 ∷ 3 ∷ []) $ use3 W (raw (Replace 𝓤 H A mem run .pre (to-replace i ν δ r₁ w₁))) (goes-replace i ν δ r₁ w₁ (fits i)) $ rewrite ! 5 (λ (k : ℕ). ‵ (fat fullShare (τ 8) l₈ 0 (sliceVal (b, o) k))) (sym (fill-length ys n (i .0))) refl $
+          calls-at ! fm (Replace 𝓤 H A mem run) known-replace (to-replace i ν δ r₁ w₁) (and-then ! (load ! (from ! (stop !)) (look ! 5 refl)) (and-then ! (load ! (from ! (stop !)) (look ! 15 refl)) (and-then ! (load ! (from ! (stop !)) (look ! 3 refl)) (no-more !)))) (λ w₂.
+          use1 W (later (some (λ (r : Unit {0}). ((‵ (flft (ν ∷ []) fullShare) ⊛ ‵ ftrue) ⊛ ‵ (Nothing .own r (w₂ ∷ []))) ⊛ raw (ensured 𝓤 H A replace.ended (replace.clauses 𝓤 H A mem run) (ν ∷ [], tt) (x δ (now-at i), (i .0, (r₁, tt))) tt r)))) (id⊢ 𝓤 _) $ await ! tt $ pick ! (λ r₂. split ! $ move ! (1 ∷ []) $
+          use1 W (some (λ (zs : List Node × (Unit {0} × (Unit {0} × Unit {0}))). ‵ (lasts replace.ended (ν ∷ [], tt) (x δ (now-at i), (i .0, (r₁, tt))) zs) ⊛ raw (fact 𝓤 (zs .0 ≡ set (now-at i) (i .0) r₁)))) (id⊢ 𝓤 _) $ pick ! (λ zs. split ! $ move ! (1 ∷ []) $
+          heard ! (zs .0 ≡ set (now-at i) (i .0) r₁) (λ e₂. fsplit ! $ fsplit ! $ move ! (1 ∷ []) $ feqL ! (λ same. move ! (2 ∷ []) $ split ! $ split ! $ move ! (2 ∷ []) $ peeks ! Nothing (Is Nothing) (shows 𝓤 H A Nothing) r₂ (w₂ ∷ []) (λ is₂. land ! (from ! (stop !)) (init ! 13 refl (nothing-lawful 𝓤 H A W .typed r₂ _ is₂ .0)) $
+          move ! (1 ∷ []) $ lft-end ! tt $ move ! (0 ∷ 5 ∷ 3 ∷ []) $ use3 W (later (‵ (MutSlice (named 0) κ T.the-row .own (x γ (zs .0)) (sv (now-at i) ∷ [])) ⊛ ‵ (flft κ q))) (comes-back T.the-row κ (ν ∷ []) q γ b o 𝓤 H A W (named 0) (named 0) (now-at i) δ (zs .0) (room-at i) same) $ await ! tt $ split ! $
+          rewrite ! 0 (λ (k : ℕ). ‵ (MutSlice (named 0) κ T.the-row .own (x γ (zs .0)) (sliceVal (b, o) k ∷ []))) (sym same) refl $
+          rewrite ! 0 (λ (t : List Node). ‵ (MutSlice (named 0) κ T.the-row .own (x γ t) (sv t ∷ []))) (fill-step ys n (i .0) r₁ (zs .0) e₁ e₂) refl $
+          assigns-last ! (bin ! (load ! (from ! (stop !)) (look ! 18 refl)) (lit ! tt) (record { fits = fits (next less) })) (from ! (stop !)) (store ! 18 refl (tt, record { fits = fits (next less) })) $
+          forget ! 16 refl $ forget ! 14 refl $ forget ! 12 refl $ forget ! 10 refl $ forget ! 8 refl $ forget ! 6 refl $ keep ! (6 ∷ 7 ∷ 8 ∷ 9 ∷ 10 ∷ 11 ∷ 12 ∷ 13 ∷ 14 ∷ 15 ∷ 16 ∷ 17 ∷ 18 ∷ 19 ∷ 20 ∷ 21 ∷ 22 ∷ 23 ∷ 24 ∷ 25 ∷ 1 ∷ 0 ∷ []) $ again ! Nearer (At l₀ l₁ l₂ l₃ l₄ l₅ l₆ l₇ l₈ l₉) i (next less) (add-one-dec (length ys) (i .0) (ltb→lt (i .0) (length ys) less)))))))))))))))
+          (λ over. jumps ! $ exec ! C Λ (En l₀ l₁ l₂ l₃ l₄ l₅ l₆ l₇ l₈ l₉) body.t-3 (atRet (En l₀ l₁ l₂ l₃ l₄ l₅ l₆ l₇ l₈ l₉) Post) $
+          assigns ! (of-opd ! (unit-lit !)) (from ! (stop !)) (init ! 18 refl (tt, tt)) $
+          returns ! (look ! 18 refl) $ forget ! 8 refl $ forget ! 10 refl $ forget ! 12 refl $ forget ! 14 refl $ forget ! 16 refl $ forget ! 18 refl $
+          move ! (18 ∷ 19 ∷ []) $ free1 ! $ move ! (16 ∷ 17 ∷ []) $ free1 ! $ move ! (14 ∷ 15 ∷ []) $ free1 ! $ move ! (12 ∷ 13 ∷ []) $ free1 ! $ move ! (10 ∷ 11 ∷ []) $ free1 ! $ move ! (8 ∷ 9 ∷ []) $ free1 ! $ move ! (6 ∷ 7 ∷ []) $ free1 ! $ move ! (4 ∷ 5 ∷ []) $ free1 ! $ move ! (2 ∷ 3 ∷ []) $ free1 ! $ free1 ! $ free0 ! $
+          keep ! (0 ∷ 1 ∷ []) $ by ! (exits (i .0) (le-antisymm (i .1) (nltb→le (i .0) (length ys) over)) room gn))
         where
           fits : (j : Upto) → j .0 < 2 ^ 64
           fits j = lt-of-le-of-lt (j .1) (room .0)
