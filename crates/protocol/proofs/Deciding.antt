@@ -5,7 +5,7 @@ use mathlib.Core.Bool.{Bool, true, false, cond, _&&_, false≢true}
 use mathlib.Core.List.{List, [], _∷_, List·Memᴰ, List·Memᴰ·head, List·Memᴰ·tail, List·Memᴰ·not-nil, Memᴰ·cast}
 use lib.Dec.{eqb}
 use borrow.Author.Tests.{eqb-true}
-use Rattle.item.specs.Counter.{sameIncarnation, attemptAtLargest, incarnationAtLargest, earlier}
+use Rattle.item.specs.Counter.{attemptAtLargest, incarnationAtLargest, earlier}
 use Rattle.item.specs.Item.{ranksBelow, sameItem}
 use Rattle.item.specs.Tests.{by-cond, and-left, and-right}
 use Rattle.item.specs.declared.Attempt.{Attempt}
@@ -18,7 +18,7 @@ use Rattle.message.specs.declared.Message.the-variants as message
 use Rattle.protocol.specs.Answer.{ok, refused, refusalNumber}
 use Rattle.protocol.specs.Deliver.{onMessage}
 use Rattle.protocol.specs.Fetching.{onFetch, onTable, tableCounted, withTable, nodeRecover, hasConflict, stopped, writtenBack}
-use Rattle.protocol.specs.Node.{rowOf, withCounted, crashed, started, belowHalf, atMostHalf}
+use Rattle.protocol.specs.Node.{rowOf, withCounted, crashed, started, belowHalf, atMostHalf, ownIncarnation}
 use Rattle.protocol.specs.Operation.{isRefused}
 use Rattle.protocol.specs.Phase.{isDown, isUp, isUpIdle, isFetching, isStoring, isConfirming, isReturning}
 use Rattle.protocol.specs.Storing.{storeVerdict, replyStore, onStore, ownWrite, isCounted, sendConfirm, storedCounted, onStored, storedUnder, onConfirm, askedUnder, endAnswer, storeSuccess, confirmedCounted, onConfirmed}
@@ -167,7 +167,7 @@ on-message-decides (message.Stored o a k) node sender i items =
     counted-decides node sender i (isStoring (node .phase)) (ownWrite node o a k) _ (stored-decides (withCounted node sender i))
 on-message-decides (message.Confirm o a k) node sender i items =
     by-cond (Decides ofMessage) (isUp (node .phase)) _ _
-    (λ _. by-cond (Decides ofMessage) (sameIncarnation o (node .incarnation) && storedUnder (rowOf node sender) i a k) _ _
+    (λ _. by-cond (Decides ofMessage) (ownIncarnation node o && storedUnder (rowOf node sender) i a k) _ _
     (λ _. by-ok ofMessage node _)
     (λ _. by-refusal ofMessage node Stale (found _ _ refl)))
     (λ _. by-refusal ofMessage node NotTaken (found _ _ refl))
@@ -179,7 +179,7 @@ on-message-decides message.Fetch node sender i items =
     (λ _. by-ok ofMessage node _)
     (λ _. by-refusal ofMessage node NotTaken (found _ _ refl))
 on-message-decides (message.Table o) node sender i items =
-    counted-decides node sender i (isFetching (node .phase)) (sameIncarnation o (node .incarnation)) _
+    counted-decides node sender i (isFetching (node .phase)) (ownIncarnation node o) _
     (table-decides (withTable node sender i items))
 
 -- ---- a list within another, by a test of each number

@@ -6,7 +6,6 @@ use mathlib.Core.Path.{_≡_, refl, _∙_}
 use mathlib.Core.Bool.{Bool, true, cond, _&&_}
 use mathlib.Core.List.{List}
 use lib.ListN.{getD}
-use Rattle.item.specs.Counter.{sameIncarnation}
 use Rattle.item.specs.Item.{zeroItem}
 use Rattle.item.specs.Row.{zeroRow}
 use Rattle.item.specs.Tests.{by-cond}
@@ -24,7 +23,7 @@ use Rattle.protocol.specs.Answer.{ok, refused}
 use Rattle.protocol.specs.Deliver.{onMessage, deliverStep}
 use Rattle.protocol.specs.Fetching.{onFetch, onTable, tableCounted, withTable, noneCounted, nodeRecover, hasConflict, stopped, writtenBack}
 use Rattle.protocol.specs.Merge.{mergeRows}
-use Rattle.protocol.specs.Node.{noPeer, rowOf, ownItem, storedRow, peerOf, blankNode, crashed, withRow, withCounted, confirmingBegun, writeEnded, withRows, belowHalf, atMostHalf}
+use Rattle.protocol.specs.Node.{noPeer, rowOf, ownItem, storedRow, peerOf, blankNode, crashed, withRow, withCounted, confirmingBegun, writeEnded, withRows, belowHalf, atMostHalf, ownIncarnation}
 use Rattle.protocol.specs.Outgoing.{messageTo}
 use Rattle.protocol.specs.Phase.{isUp, isFetching, isStoring, isConfirming}
 use Rattle.protocol.specs.Storing.{storeVerdict, replyStore, onStore, ownWrite, isCounted, sendConfirm, storedCounted, onStored, storedUnder, onConfirm, askedUnder, storeSuccess, confirmedCounted, onConfirmed}
@@ -161,7 +160,7 @@ module _ (node : Node) (N : NodeFits node) (sender : ℕ) (i : Incarnation) (I :
       (through node (withCounted node sender i) refl refl _ (stored-fits (withCounted node sender i) (counted-fits node N sender i I)))
   message-fits (message.Confirm o a k) M =
       by-cond (StepFits node) (isUp (node .phase)) _ _
-      (λ _. by-cond (StepFits node) (sameIncarnation o (node .incarnation) && storedUnder (rowOf node sender) i a k) _ _
+      (λ _. by-cond (StepFits node) (ownIncarnation node o && storedUnder (rowOf node sender) i a k) _ _
       (λ _. by-answer node N (message.Confirmed i a k) (record { other-fits = I; attempt-fits = M .attempt-fits; item-fits = M .item-fits }))
       (λ _. by-refused node N _))
       (λ _. by-refused node N _)
@@ -173,7 +172,7 @@ module _ (node : Node) (N : NodeFits node) (sender : ℕ) (i : Incarnation) (I :
       (λ _. by-answer node N (message.Table i) (record { other-fits = I; attempt-fits = omega arith; item-fits = zero-fits }))
       (λ _. by-refused node N _)
   message-fits (message.Table o) M =
-      counted-step node N (isFetching (node .phase)) (sameIncarnation o (node .incarnation)) sender _
+      counted-step node N (isFetching (node .phase)) (ownIncarnation node o) sender _
       (through node (withTable node sender i items) refl refl _ (table-fits (withTable node sender i items) with-table-fits))
 
 pub deliver-fits : (node : Node) (e : Envelope) (items : List Item) → NodeFits node → CounterFits (e .incarnation .0)
