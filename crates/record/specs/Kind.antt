@@ -1,2 +1,3 @@
 -- The kinds of message, as the crate `kinds` has them.
-unfoldable pub use Rattle.kinds.specs.Kind.{kindOf, otherOf, attemptOf, itemOf, noAttempt, noIncarnation, filled, fieldsOf, rowsHeld, noWrite, knownIf, messageOf}
+pub use Rattle.kinds.specs.Kind.{noAttempt, noIncarnation, filled, knownIf}
+unfoldable pub use Rattle.kinds.specs.Kind.{kindOf, otherOf, attemptOf, itemOf, fieldsOf, rowsHeld, noWrite, messageOf}

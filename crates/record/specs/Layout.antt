@@ -2,7 +2,8 @@
 use Prim.Native.Nat.{ℕ}
 use mathlib.Core.List.{List}
 use Rattle.record.specs.Chunk.{chunk, withChunk}
-unfoldable pub use Rattle.layout.specs.Layout.{recordSize, nextAt, kindAt, addressAt, incarnationAt, otherAt, attemptAt, itemAt, rowsAt, indexSize, rowSize, fieldsSize, itemBytes, addressByte, fieldBytes, rowsBytes, layoutBytes, padded, itemIn, fieldsIn, itemsIn, rowsOf, nextOf, heldRows}
+pub use Rattle.layout.specs.Layout.{recordSize, nextAt, kindAt, addressAt, incarnationAt, otherAt, attemptAt, itemAt, rowsAt, indexSize, rowSize, fieldsSize, layoutBytes}
+unfoldable pub use Rattle.layout.specs.Layout.{itemBytes, addressByte, fieldBytes, rowsBytes, padded, itemIn, fieldsIn, itemsIn, rowsOf, nextOf, heldRows}
 
 unfoldable pub recordOf : List ℕ → ℕ → List ℕ
 recordOf s i = chunk recordSize s i
