@@ -23,7 +23,7 @@ use Rattle.message.specs.declared.Message.the-variants as message
 use Rattle.message.specs.declared.Outgoing.{Outgoing}
 use Rattle.record.specs.Kind.{fieldsOf, rowsHeld}
 use Rattle.record.specs.Layout.{padded}
-use Rattle.record.specs.Record.{heldRows}
+use Rattle.layout.specs.Layout.{heldRows}
 use Rattle.record.specs.RoundTrip.{ItemFits, RowsFit, FieldsFit, Fits}
 use Rattle.returns.specs.View.{ViewMessage, Each, each-nil, each-append}
 use Rattle.protocol.specs.Node.{rowOf}

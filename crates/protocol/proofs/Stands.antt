@@ -16,7 +16,8 @@ use Rattle.item.specs.declared.Item.{Item}
 use Rattle.message.specs.declared.Envelope.{Envelope}
 use Rattle.message.specs.declared.Outgoing.{Outgoing}
 use Rattle.record.specs.Layout.{recordSize, rowsOf}
-use Rattle.record.specs.Record.{readRecord, recordBytes, heldRows}
+use Rattle.layout.specs.Layout.{heldRows}
+use Rattle.record.specs.Record.{readRecord, recordBytes}
 use Rattle.record.specs.RoundTrip.{ItemFits, Fits, ReadsBack, reads-back}
 use Rattle.record.specs.declared.Reading.the-variants.{Found}
 use Rattle.returns.specs.Change.{Change, MaySend, Next, same, did-at}

@@ -6,10 +6,9 @@ use mathlib.Core.Bool.{true, cond, _&&_}
 use mathlib.Core.Logic.{_⊎_, inr}
 use mathlib.Core.List.{List, [], _∷_}
 use native.Mathlib.Omega.{arith}
-use native.Mathlib.Nat.{suc-mul}
 use lib.Dec.{eqb}
 use borrow.Author.Tests.{eq-eqb}
-use lib.ListN.{length, take, drop, getD, length-append, length-drop, List·getD-eq-default}
+use lib.ListN.{length, take, drop, getD, length-drop, List·getD-eq-default}
 use lib.Seq.{drop-cons, drop-drop, getD-drop, ext-getD}
 use Rattle.item.specs.Maxima.{maxNodes}
 use Rattle.item.specs.Tests.{by-cond, and-both}
@@ -25,10 +24,10 @@ use Rattle.kinds.specs.declared.Known.{Known}
 use Rattle.kinds.specs.declared.Known.the-variants as known
 use Rattle.record.specs.declared.Reading.{Reading}
 use Rattle.record.specs.declared.Reading.the-variants.{Found, Fault}
-use Rattle.record.specs.Layout.{recordSize, nextAt, kindAt, addressAt, incarnationAt, otherAt, attemptAt, itemAt, rowsAt, rowSize, indexSize, itemBytes, fieldBytes, rowsBytes, padded, itemIn, itemsIn, fieldsIn, rowsOf, nextOf}
-use Rattle.record.specs.Kind.{fieldsOf, messageOf, rowsHeld}
+use Rattle.record.specs.Layout.{recordSize, nextAt, kindAt, addressAt, incarnationAt, otherAt, attemptAt, itemAt, rowsAt, rowSize, indexSize, itemIn, itemsIn, fieldsIn, rowsOf, nextOf}
+use Rattle.record.specs.Kind.{messageOf, rowsHeld}
 use Rattle.message.specs.declared.Envelope.{Envelope}
-use Rattle.record.specs.Record.{heldRows, recordBytes, readAs, readRecord, envelopeOf, zeroAfterRows, zeroAfterNext, withNext, noRecord}
+use Rattle.record.specs.Record.{recordBytes, readAs, readRecord, envelopeOf, zeroAfterRows, zeroAfterNext, withNext, noRecord}
 
 -- ---- a number written
 
@@ -163,32 +162,7 @@ nothing-none n = kind-none n [] refl
 
 -- ---- how long a record is
 
-length-item : (i : Item) → length (itemBytes i) ≡ rowSize
-unfolding itemBytes
-length-item i = simp (length-append, length-bytes)
-
-length-fields : (f : Fields) → length (fieldBytes f) + kindAt ≡ rowsAt
-unfolding fieldBytes
-length-fields f = simp (length-append, length-bytes, length-item)
-
-length-rows : (items : List Item) → length (rowsBytes items) ≡ length items * rowSize
-unfolding rowsBytes
-length-rows [] = refl
-length-rows (i ∷ items) = simp (length-append, length-item, length-rows items, suc-mul) (omega arith)
-
-length-padded : (m : ℕ) (items : List Item) → length (padded m items) ≡ m
-unfolding padded
-length-padded zero items = refl
-length-padded (suc m) [] = ap suc (length-padded m [])
-length-padded (suc m) (i ∷ items) = ap suc (length-padded m items)
-
-pub length-record-bytes : (n next : ℕ) (e : Envelope) (rows : List Item) → length (recordBytes n next e rows) ≡ recordSize
-unfolding recordBytes heldRows
-length-record-bytes n next e rows =
-    simp (length-append, length-bytes, length-rows)
-    (omega (arith, length-fields (fieldsOf e), length-padded maxNodes (take (rowsHeld (e .message) n) rows)))
-
-length-no-record : length noRecord ≡ recordSize
+pub length-no-record : length noRecord ≡ recordSize
 unfolding noRecord
 length-no-record = length-zeros recordSize
 

@@ -26,7 +26,8 @@ use Rattle.store.specs.Joined.{Sized, records-count, records-sized, reco
 use Rattle.store.specs.Head.{freeAt, sizeAt, inboxAt, firstFree, groupSize, firstOf, withFirstFree, withFirstOf}
 use Rattle.store.specs.Chain.{nextIn, lastFrom, beforeFrom}
 use Rattle.store.specs.Change.{withNextIn, appended, taken, putIn, putEach, unlinked, freed, dropIn, freeRecords, emptyHead, emptyRecords}
-use Rattle.store.specs.Bytes.{byte-other, Alike, alike-self, alike-trans, alike-next, alike-byte, alike-read, alike-rows, zero-none, cleared-none, nothing-none, length-record-bytes, length-cleared}
+use Rattle.record.specs.RoundTrip.{length-record}
+use Rattle.store.specs.Bytes.{byte-other, Alike, alike-self, alike-trans, alike-next, alike-byte, alike-read, alike-rows, zero-none, cleared-none, nothing-none, length-cleared}
 
 -- a change that keeps n, the number of records and their sizes, and leaves each record from 1 alike apart from next, or new
 pub record Local (New : List ℕ → Type 0) (rs rs′ : List (List ℕ)) : Type 0 where
@@ -166,7 +167,7 @@ unfolding taken
 taken-local rs e rows d =
     local-then (λ r q k l. alike-trans k l) (free-local rs (nextIn rs (firstFree rs)))
     (set-local (withFirstFree rs (nextIn rs (firstFree rs))) (firstFree rs) (recordBytes (groupSize rs) 0 e rows)
-    (λ _. length-record-bytes (groupSize rs) 0 e rows)
+    (λ _. length-record (groupSize rs) 0 e rows)
     (λ z. absurd (d z))
     (λ _. inr (alike-self (recordBytes (groupSize rs) 0 e rows))))
 
@@ -286,7 +287,7 @@ length-empty zero n = refl
 length-empty (suc left) n = ap suc (length-free-records left 1)
 
 -- a record of them is cleared but for its next
-free-record : (P : List ℕ → Type 0) → ((next : ℕ) → P (withNext noRecord next)) → (left i j : ℕ) → j < left → P (recordIn (freeRecords left i) j)
+pub free-record : (P : List ℕ → Type 0) → ((next : ℕ) → P (withNext noRecord next)) → (left i j : ℕ) → j < left → P (recordIn (freeRecords left i) j)
 unfolding freeRecords recordIn
 free-record P p zero i j h = absurd (not-suc-le-zero h)
 free-record P p (suc zero) i zero h = p 0
