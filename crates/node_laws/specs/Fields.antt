@@ -46,14 +46,10 @@ changedBy (message.Table other) sender =
 
 -- by a decision of the node with this number
 unfoldable pub changed : Decision → ℕ → Changed
-changed (Write tag) own =
-    record { incarnation = false; attempt = true; phase = true; rows = only own; peers = true }
-changed Retry own =
-    record { incarnation = false; attempt = true; phase = true; rows = only own; peers = true }
-changed Crash own =
-    record { incarnation = false; attempt = true; phase = true; rows = every; peers = true }
-changed Start own =
-    record { incarnation = true; attempt = true; phase = true; rows = every; peers = true }
+changed (Write tag) own = record { incarnation = false; attempt = true; phase = true; rows = only own; peers = true }
+changed Retry own = record { incarnation = false; attempt = true; phase = true; rows = only own; peers = true }
+changed Crash own = record { incarnation = false; attempt = true; phase = true; rows = every; peers = true }
+changed Start own = record { incarnation = true; attempt = true; phase = true; rows = every; peers = true }
 changed (Deliver envelope items) own = changedBy (envelope .message) (envelope .sender)
 
 -- every field that may not change is as it was; and a decision that leaves the phase Fetching, as a Table before the

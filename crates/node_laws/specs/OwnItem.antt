@@ -1,6 +1,5 @@
 -- What a decision that is not refused makes of the own item.
 use mathlib.Core.Path.{_≡_}
-use mathlib.Core.Logic.{_⊎_}
 use mathlib.Core.Bool.{false}
 use mathlib.Core.List.{List}
 use lib.ListN.{getD}
@@ -16,15 +15,20 @@ use Rattle.protocol.specs.declared.Node.{Node}
 use Rattle.protocol.specs.declared.Step.{Step}
 use Rattle.node_laws.specs.Decision.{Decision, Write, Retry, Crash, Start, Deliver}
 
--- by a message: only a Table, the return, changes it. It is then the item that the Table has for this node (`told`), or zero
--- where the return is stopped
+-- by a Table, the return: the item stays, or is the one that the Table has for this node, or is zero where the return stops
+pub data ByTable (told old new : Item) : Type 0 where
+  stays : new ≡ old → ByTable told old new
+  fetched : new ≡ told → ByTable told old new
+  lost : new ≡ zeroItem → ByTable told old new
+
+-- by a message; `told` is the item beside it for this node
 unfoldable pub ItemBy : Message → Item → Item → Item → Type 0
 ItemBy (message.Store attempt item) told old new = new ≡ old
 ItemBy (message.Stored other attempt item) told old new = new ≡ old
 ItemBy (message.Confirm other attempt item) told old new = new ≡ old
 ItemBy (message.Confirmed other attempt item) told old new = new ≡ old
 ItemBy message.Fetch told old new = new ≡ old
-ItemBy (message.Table other) told old new = (new ≡ old) ⊎ (new ≡ told) ⊎ (new ≡ zeroItem)
+ItemBy (message.Table other) told old new = ByTable told old new
 
 -- by any decision of the node with this number
 unfoldable pub ItemAfter : Decision → ℕ → Item → Item → Type 0
