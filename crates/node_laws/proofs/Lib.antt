@@ -1,0 +1,10 @@
+pub mod Outcome
+pub mod GivesBack
+pub mod LeftAlone
+pub mod Counters
+pub mod OwnItem
+pub mod Every
+pub mod PhaseCases
+pub mod SoundRows
+pub mod SoundChanges
+pub mod Sound

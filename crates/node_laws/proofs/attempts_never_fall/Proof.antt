@@ -1,0 +1,10 @@
+-- `node_laws::attempts_never_fall` meets its contract, by the law proved in `Counters`.
+use Rattle.node_laws.proofs.attempts_never_fall.Statement.{statement}
+use Rattle.node_laws.proofs.attempts_never_fall.Tie as tie
+use Rattle.node_laws.proofs.Counters.{attempts-never-fall}
+
+returns : tie.Need-returns
+returns c = attempts-never-fall
+
+pub attempts-never-fall-spec : {M : Type 1} → statement M
+attempts-never-fall-spec = tie.close (tie.spec returns)

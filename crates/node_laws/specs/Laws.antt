@@ -1,0 +1,44 @@
+-- The laws of one node's decisions, each a statement; `proofs/` shows them.
+use Prim.Native.Nat.{ℕ, _≤_}
+use mathlib.Core.Path.{_≡_}
+use mathlib.Core.Bool.{true, false}
+use Rattle.protocol.specs.Phase.{isDown}
+use Rattle.protocol.specs.Sound.{soundNode}
+use Rattle.protocol.specs.declared.Answer.the-variants as answer
+use Rattle.protocol.specs.declared.Node.{Node}
+use Rattle.protocol.specs.declared.Refusal.{Refusal}
+use Rattle.protocol.specs.declared.Sends.the-variants as sends
+use Rattle.node_laws.specs.Decision.{Decision, decide, after, Stands, MayCome}
+use Rattle.node_laws.specs.Fields.{Leaves, changed}
+use Rattle.node_laws.specs.OwnItem.{OwnItem}
+
+-- "A refusal changes no byte": a refused decision gives back the node, and sends nothing
+unfoldable pub RefusedGivesBack : Type 0
+RefusedGivesBack =
+    (d : Decision) (node : Node) (why : Refusal) → decide d node .answer ≡ answer.Refused why →
+    (after d node ≡ node) × (decide d node .sends ≡ sends.Nothing)
+
+-- each decision leaves alone every field that the table `changed` does not give it
+unfoldable pub OthersLeftAlone : Type 0
+OthersLeftAlone = (d : Decision) (node : Node) → Leaves (changed d (node .number)) node (after d node)
+
+unfoldable pub IncarnationsNeverFall : Type 0
+IncarnationsNeverFall = (d : Decision) (node : Node) → node .incarnation .0 ≤ after d node .incarnation .0
+
+-- within one incarnation a sound node's attempt does not fall, unless the node goes Down (by Crash, or stopped); then it is
+-- 0, as in every sound node that is Down, until Start raises the incarnation
+unfoldable pub AttemptsNeverFall : Type 0
+AttemptsNeverFall =
+    (n k : ℕ) (d : Decision) (node : Node) → soundNode n k node ≡ true →
+    after d node .incarnation ≡ node .incarnation → isDown (after d node .phase) ≡ false →
+    node .attempt .0 ≤ after d node .attempt .0
+
+-- a decision that is not refused leaves the own item, or makes of it what `OwnItem` says
+unfoldable pub OwnItemOnlyWritten : Type 0
+OwnItemOnlyWritten =
+    (n k : ℕ) (d : Decision) (node : Node) → Stands n k node → MayCome n k d → OwnItem d node (decide d node)
+
+-- a sound node stays sound, whatever it is given
+unfoldable pub SoundStaysSound : Type 0
+SoundStaysSound =
+    (n k : ℕ) (d : Decision) (node : Node) → Stands n k node → MayCome n k d → soundNode n k (after d node) ≡ true

@@ -1,0 +1,4 @@
+pub mod Decision
+pub mod Fields
+pub mod OwnItem
+pub mod Laws
