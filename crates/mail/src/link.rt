@@ -52,7 +52,13 @@ pub(crate) fn set_group_size(s: &mut [u8], n: usize)
 }
 
 // Record `i` becomes this message, with nothing after it on its chain.
-pub(crate) fn write(s: &mut [u8], i: usize, n: usize, envelope: Envelope, rows: [Item; item::MAX_NODES])
+pub(crate) fn write(
+    s: &mut [u8],
+    i: usize,
+    n: usize,
+    envelope: Envelope,
+    rows: [Item; item::MAX_NODES],
+)
     requires { ⌜ length (now s) ≡ recordCount * recordSize ⌝ }
     ensures { λ _. ⌜ recordsOf (now (s .exit)) ≡ set (recordsOf (now (s .entry))) i (recordBytes n 0 envelope rows) ⌝ }
 {

@@ -61,7 +61,11 @@ fn put_present(s: &mut [u8], place: Outgoing, rows: [Item; item::MAX_NODES])
     put_message(s, envelope, rows);
 }
 
-pub(crate) fn put_messages(s: &mut [u8], outgoing: [Outgoing; item::MAX_NODES], rows: [Item; item::MAX_NODES])
+pub(crate) fn put_messages(
+    s: &mut [u8],
+    outgoing: [Outgoing; item::MAX_NODES],
+    rows: [Item; item::MAX_NODES],
+)
     requires { ⌜ length (now s) ≡ recordCount * recordSize ⌝ }
     ensures { λ _. ⌜ recordsOf (now (s .exit)) ≡ putEach (recordsOf (now (s .entry))) outgoing rows ⌝ }
 {

@@ -49,7 +49,7 @@ loop-again : tie.Need-loop-again Inv-loop μ-loop
 loop-again c = let l = c .before .before .before .before .before .before .before .loop in let a = c .before .before .before .before .before .before .before .before .before .args in (omega arith, simp length-set (l .inv .1), l .inv .2, sym (walk-turn (belongsOn (a .chain) (a .n)) (now (a .s)) (l .inv .2) (l .count) (l .i) _ (l .passed) (omega arith) (c .before .before .before .before .before .if1 .left) (omega arith) (c .before .before .before .if3 .left) (granted (c .before .before .belongs .ensures) (c .before .if4 .left)) (c .next .ensures)) ∙ l .inv .3)
 
 returns : tie.Need-returns Inv-loop μ-loop
-returns c = 
+returns c =
     let l = c .before .loop in
     let a = c .before .before .before .args in
     let b = belongsOn (a .chain) (a .n) in
