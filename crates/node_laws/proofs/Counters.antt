@@ -2,7 +2,7 @@
 -- raise them, and the write-back has attempt 1 where a sound node that is Fetching has 0.
 use Prim.Native.Nat.{ℕ, suc, _≤_}
 use native.Mathlib.Omega.{arith}
-use mathlib.Core.Path.{_≡_, refl, sym, ap, _∙_}
+use mathlib.Core.Path.{_≡_, refl, sym, ap}
 use mathlib.Core.Bool.{true, false, false≢true}
 use mathlib.Core.List.{List}
 use Rattle.item.specs.Counter.{nextIncarnation, incarnationAtLargest, nextAttempt, attemptAtLargest}

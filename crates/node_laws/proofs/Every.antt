@@ -2,11 +2,11 @@
 -- count of peers when one more is present.
 use Prim.Native.Nat.{ℕ, zero, suc, _+_, _≤_, _<_}
 use native.Mathlib.Omega.{arith}
-use mathlib.Core.Path.{_≡_, refl, sym, ap, _∙_}
-use mathlib.Core.Bool.{Bool, true, false, cond, false≢true}
+use mathlib.Core.Path.{_≡_, refl}
+use mathlib.Core.Bool.{Bool, true, false, cond}
 use mathlib.Core.List.{List, [], _∷_}
-use lib.ListN.{length, getD, set, replicate}
-use Rattle.item.specs.Tests.{by-cond, and-left, and-right, and-both}
+use lib.ListN.{length, set, replicate}
+use Rattle.item.specs.Tests.{and-left, and-right, and-both}
 use Rattle.protocol.specs.Node.{countPeers}
 use Rattle.protocol.specs.Sound.{everyFrom}
 use Rattle.protocol.specs.declared.Peer.{Peer}

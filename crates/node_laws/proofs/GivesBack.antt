@@ -1,7 +1,7 @@
 -- A refused decision gives back the node and sends nothing: so does every refusal, and nothing else answers one.
 use Prim.Native.Nat.{ℕ}
 use mathlib.Core.Path.{_≡_, refl, sym, ap, _∙_}
-use mathlib.Core.Bool.{true, false, false≢true}
+use mathlib.Core.Bool.{false, false≢true}
 use mathlib.Core.List.{List}
 use Rattle.item.specs.Tests.{by-cond}
 use Rattle.item.specs.declared.Incarnation.{Incarnation}

@@ -3,7 +3,6 @@ use Prim.Native.Nat.{ℕ}
 use mathlib.Core.Path.{_≡_, refl, sym, _∙_}
 use mathlib.Core.Bool.{true, false, false≢true}
 use mathlib.Core.List.{List}
-use lib.Dec.{eqb}
 use borrow.Author.Tests.{eqb-false}
 use Rattle.item.specs.declared.Attempt.{Attempt}
 use Rattle.item.specs.declared.Incarnation.{Incarnation}
@@ -22,7 +21,7 @@ use Rattle.protocol.specs.declared.Phase.{Phase}
 use Rattle.protocol.specs.declared.Phase.the-variants.{Down, Fetching, Returning, Up}
 use Rattle.protocol.specs.declared.Step.{Step}
 use Rattle.protocol.proofs.Rows.{row-kept, begun-other}
-use Rattle.node_laws.specs.Decision.{Decision, Write, Retry, Crash, Start, Deliver}
+use Rattle.node_laws.specs.Decision.{Decision, Retry, Crash, Start}
 use Rattle.node_laws.specs.Fields.{Changed, among, changed, changedBy, Leaves}
 use Rattle.node_laws.specs.Laws.{OthersLeftAlone}
 use Rattle.node_laws.proofs.Outcome.{

@@ -6,5 +6,6 @@ pub mod OwnItem
 pub mod Every
 pub mod PhaseCases
 pub mod SoundRows
-pub mod SoundChanges
+pub mod Soundly
+pub mod SoundMessages
 pub mod Sound

@@ -4,7 +4,7 @@ use Prim.Native.Nat.{ℕ, _≤_, _<_}
 use native.Mathlib.Omega.{arith}
 use mathlib.Core.Path.{_≡_, refl, sym, ap, subst, _∙_}
 use mathlib.Core.Logic.{_≢_}
-use mathlib.Core.Bool.{Bool, true, false, false≢true}
+use mathlib.Core.Bool.{Bool, false, false≢true}
 use mathlib.Core.List.{List}
 use lib.ListN.{length, getD}
 use Rattle.item.specs.Item.{zeroItem, ranksBelow, sameItem}
@@ -15,21 +15,20 @@ use Rattle.item.specs.declared.Incarnation.{Incarnation}
 use Rattle.item.specs.declared.Item.{Item}
 use Rattle.item.specs.declared.Row.{Row}
 use Rattle.message.specs.declared.Message.{Message}
-use Rattle.message.specs.declared.Message.the-variants as message
 use Rattle.protocol.specs.Answer.{ok, refused}
 use Rattle.protocol.specs.Fetching.{withTable, noneCounted, stopped, writtenBack}
 use Rattle.protocol.specs.Merge.{mergeRow, mergeRows}
 use Rattle.protocol.specs.Node.{rowOf, ownItem, blankNode, crashed, started, storingBegun, withRow, withRows, withCounted, confirmingBegun, writeEnded}
 use Rattle.protocol.specs.Operation.{isRefused}
 use Rattle.protocol.specs.Storing.{sendConfirm, storeSuccess}
-use Rattle.protocol.specs.Write.{sendStore, sendFetch, nextItem, written, retried}
+use Rattle.protocol.specs.Write.{sendStore, sendFetch, written, retried}
 use Rattle.protocol.specs.declared.Node.{Node}
 use Rattle.protocol.specs.declared.Phase.{Phase}
 use Rattle.protocol.specs.declared.Refusal.{Refusal}
 use Rattle.protocol.specs.declared.Step.{Step}
 use Rattle.protocol.proofs.InView.{number-is, size-fits}
 use Rattle.protocol.proofs.Rows.{row-kept, begun-own, merged-row, merged-length, zero-row}
-use Rattle.node_laws.specs.Decision.{Decision, Write, Retry, Crash, Start, Deliver, Stands, Comes, MayCome}
+use Rattle.node_laws.specs.Decision.{Decision, MayCome}
 use Rattle.node_laws.specs.Laws.{OwnItemOnlyWritten}
 use Rattle.node_laws.specs.OwnItem.{ByTable, stays, fetched, lost, ItemBy, ItemAfter, OwnItem}
 use Rattle.node_laws.proofs.Outcome.{
@@ -92,8 +91,8 @@ table-item : (node : Node) (s : ℕ) (i : Incarnation) (items : List Item) → n
 unfolding ownItem withTable withRows withCounted rowOf
 table-item node s i items there here =
     let e : getD (mergeRows (noneCounted node) (node .rows) items) (node .number) zeroRow
-        ≡ mergeRow (noneCounted node) (getD (node .rows) (node .number) zeroRow) (getD items (node .number) zeroItem)
-        = merged-row (noneCounted node) (node .rows) items (node .number) there here in
+    ≡ mergeRow (noneCounted node) (getD (node .rows) (node .number) zeroRow) (getD items (node .number) zeroItem)
+    = merged-row (noneCounted node) (node .rows) items (node .number) there here in
     subst (λ (r : Row). ByTable (getD items (node .number) zeroItem) (getD (node .rows) (node .number) zeroRow .item) (r .item)) (sym e)
     (merge-item (noneCounted node) (getD (node .rows) (node .number) zeroRow) (getD items (node .number) zeroItem))
 

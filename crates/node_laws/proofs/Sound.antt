@@ -3,21 +3,21 @@ use Prim.Native.Nat.{ℕ, _≤_, _<_}
 use native.Mathlib.Omega.{arith}
 use mathlib.Core.Path.{_≡_, refl}
 use mathlib.Core.Logic.{_≢_}
-use mathlib.Core.Bool.{Bool, true, false, _||_, false≢true}
+use mathlib.Core.Bool.{Bool, true, false, _||_}
 use mathlib.Core.List.{List}
 use lib.ListN.{length, getD}
 use borrow.Author.Tests.{leb-true}
 use Rattle.item.specs.Item.{zeroItem}
 use Rattle.item.specs.Maxima.{maxNodes, validSize}
-use Rattle.item.specs.Tests.{and-left, and-right}
+use Rattle.item.specs.Tests.{and-left}
 use Rattle.item.specs.declared.Incarnation.{Incarnation}
 use Rattle.item.specs.declared.Item.{Item}
 use Rattle.message.specs.declared.Message.{Message}
 use Rattle.protocol.specs.Answer.{ok, refused}
 use Rattle.protocol.specs.Fetching.{withTable, stopped}
 use Rattle.protocol.specs.Node.{half, countPeers, withRows, withCounted}
-use Rattle.protocol.specs.Phase.{isDown, isFetching, isIdle, isStoring, isStoringStage, atStage}
-use Rattle.protocol.specs.Sound.{soundNode, everyFrom, rowSound, rowUse}
+use Rattle.protocol.specs.Phase.{isDown, isIdle, isStoring, isStoringStage, atStage}
+use Rattle.protocol.specs.Sound.{everyFrom, rowSound, rowUse}
 use Rattle.protocol.specs.Storing.{sendConfirm, storeSuccess}
 use Rattle.protocol.specs.Write.{sendStore, sendFetch, written, retried, nothingToRetry}
 use Rattle.protocol.specs.declared.Node.{Node}
@@ -25,7 +25,7 @@ use Rattle.protocol.specs.declared.RowUse.the-variants as row-use
 use Rattle.protocol.specs.declared.Stage.the-variants.{Storing}
 use Rattle.protocol.specs.declared.Step.{Step}
 use Rattle.protocol.proofs.InView.{size-fits}
-use Rattle.node_laws.specs.Decision.{Decision, Stands, Comes, MayCome}
+use Rattle.node_laws.specs.Decision.{Decision, MayCome}
 use Rattle.node_laws.specs.Laws.{SoundStaysSound}
 use Rattle.node_laws.proofs.Outcome.{
   Received,
@@ -51,22 +51,8 @@ use Rattle.node_laws.proofs.Outcome.{
   outcome,
 }
 use Rattle.node_laws.proofs.PhaseCases.{idle-cases, live-cases}
-use Rattle.node_laws.proofs.SoundChanges.{
-  Soundly,
-  read-sound,
-  is-sound,
-  rows-of,
-  crashed-sound,
-  started-sound,
-  begun-sound,
-  row-sound,
-  stored-counted,
-  asking-sound,
-  confirmed-counted,
-  ended-sound,
-  table-counted,
-  back-sound,
-}
+use Rattle.node_laws.proofs.Soundly.{Soundly, read-sound, is-sound, rows-of, crashed-sound, started-sound, begun-sound}
+use Rattle.node_laws.proofs.SoundMessages.{row-sound, stored-counted, asking-sound, confirmed-counted, ended-sound, table-counted, back-sound}
 
 -- a group has at least three nodes
 some-half : (n : ℕ) → validSize n ≡ true → 0 < half n

@@ -1,8 +1,8 @@
 -- Rows that stay sound: a row set by a Store or a write, rows merged with a Table, and unmarked rows once Fetching ends.
 use Prim.Native.Nat.{ℕ, zero, suc, _+_, _≤_, _<_}
 use native.Mathlib.Omega.{arith}
-use mathlib.Core.Path.{_≡_, refl, sym, ap, subst, _∙_}
-use mathlib.Core.Bool.{Bool, true, false, cond, not, _&&_, false≢true}
+use mathlib.Core.Path.{_≡_, refl, sym, ap, subst}
+use mathlib.Core.Bool.{Bool, true, false, not, _&&_}
 use mathlib.Core.List.{List, [], _∷_}
 use lib.Dec.{ltb}
 use lib.ListN.{length, getD}
@@ -92,7 +92,7 @@ merged-sound first n k [] items e h = refl
 merged-sound first n k (row ∷ rows) [] e h = e
 merged-sound first n k (row ∷ rows) (item ∷ items) e h =
     let here : rowSound row-use.Fetched n k row ≡ true
-        = and-left (rowSound row-use.Fetched n k row) (everyFrom (rowSound row-use.Fetched n) (suc k) rows) e in
+    = and-left (rowSound row-use.Fetched n k row) (everyFrom (rowSound row-use.Fetched n) (suc k) rows) e in
     and-both
     (row-sound-is row-use.Fetched n k (mergeRow first row item)
     (λ l. merged-fits first row item (row-below row-use.Fetched n k row here l))

@@ -22,18 +22,20 @@ RefusedGivesBack =
 unfoldable pub OthersLeftAlone : Type 0
 OthersLeftAlone = (d : Decision) (node : Node) → Leaves (changed d (node .number)) node (after d node)
 
+-- no decision lowers the incarnation (and by `changed` only Start changes it)
 unfoldable pub IncarnationsNeverFall : Type 0
 IncarnationsNeverFall = (d : Decision) (node : Node) → node .incarnation .0 ≤ after d node .incarnation .0
 
--- within one incarnation a sound node's attempt does not fall, unless the node goes Down (by Crash, or stopped); then it is
--- 0, as in every sound node that is Down, until Start raises the incarnation
+-- within one incarnation a sound node's attempt does not fall, unless the node goes Down (by Crash, or "stopped"): then it is
+-- 0, until Start raises the incarnation
 unfoldable pub AttemptsNeverFall : Type 0
 AttemptsNeverFall =
     (n k : ℕ) (d : Decision) (node : Node) → soundNode n k node ≡ true →
     after d node .incarnation ≡ node .incarnation → isDown (after d node .phase) ≡ false →
     node .attempt .0 ≤ after d node .attempt .0
 
--- a decision that is not refused leaves the own item, or makes of it what `OwnItem` says
+-- the own item changes only by Write, to the next one, by the return, to one that a Table has for this node, and by Crash,
+-- "stopped" and Start, to zero
 unfoldable pub OwnItemOnlyWritten : Type 0
 OwnItemOnlyWritten =
     (n k : ℕ) (d : Decision) (node : Node) → Stands n k node → MayCome n k d → OwnItem d node (decide d node)

@@ -1,7 +1,6 @@
 -- What a decision that is not refused makes of the own item.
 use mathlib.Core.Path.{_≡_}
 use mathlib.Core.Bool.{false}
-use mathlib.Core.List.{List}
 use lib.ListN.{getD}
 use Prim.Native.Nat.{ℕ}
 use Rattle.item.specs.Item.{zeroItem}

@@ -1,7 +1,12 @@
-// The laws of one node's decisions (issue 3, part 5): statements over every decision at once, each the contract of a
+// The laws of one node's decisions: statements over every decision at once, each the contract of a
 // function that does nothing. The definitions are in specs/, the proofs in proofs/; there is no code.
 ghost use Rattle.node_laws.specs.Laws.{
-    RefusedGivesBack, OthersLeftAlone, IncarnationsNeverFall, AttemptsNeverFall, OwnItemOnlyWritten, SoundStaysSound,
+  RefusedGivesBack,
+  OthersLeftAlone,
+  IncarnationsNeverFall,
+  AttemptsNeverFall,
+  OwnItemOnlyWritten,
+  SoundStaysSound,
 };
 
 // A refused decision gives back the same node and sends nothing.

@@ -1,178 +1,40 @@
--- Each change of a node keeps it sound, where the tests that lead to it passed.
-use Prim.Native.Nat.{ℕ, zero, suc, _+_, _≤_, _<_}
+-- A message that is taken keeps a node sound: a row is stored, a peer is counted or all counted are asked, a write ends, a table
+-- is counted, the own item is written back.
+use Prim.Native.Nat.{ℕ, suc, _+_, _≤_, _<_}
 use native.Mathlib.Omega.{arith}
-use mathlib.Core.Path.{_≡_, refl, sym, ap, subst, _∙_}
+use mathlib.Core.Path.{_≡_, refl, ap, subst}
 use mathlib.Core.Logic.{_≢_}
-use mathlib.Core.Bool.{Bool, true, false, cond, not, _&&_, false≢true}
+use mathlib.Core.Bool.{Bool, true, false, cond}
 use mathlib.Core.List.{List}
 use lib.Dec.{ltb, eqb}
 use lib.ListN.{length, getD, set}
-use borrow.Author.Tests.{ltb-true, ltb-false, lt-ltb, eqb-true, eq-eqb, ne-eqb}
-use Rattle.item.specs.Counter.{sameIncarnation, sameAttempt}
+use borrow.Author.Tests.{ltb-true, ltb-false, eq-eqb, ne-eqb}
+use Rattle.item.specs.Counter.{sameIncarnation}
 use Rattle.item.specs.Item.{zeroItem}
 use Rattle.item.specs.Maxima.{maxNodes}
-use Rattle.item.specs.Row.{zeroRow}
 use Rattle.item.specs.Tests.{by-cond, and-left, and-right, and-both}
 use Rattle.item.specs.declared.Attempt.{Attempt}
 use Rattle.item.specs.declared.Incarnation.{Incarnation}
 use Rattle.item.specs.declared.Item.{Item}
-use Rattle.item.specs.declared.Row.{Row}
 use Rattle.protocol.specs.Fetching.{withTable, noneCounted, hasConflict, writtenBack}
 use Rattle.protocol.specs.Merge.{mergeRows, lowestMarked}
-use Rattle.protocol.specs.Node.{noPeer, noPeers, half, ownItem, storedRow, peerOf, countPeers, blankNode, crashed, started, storingBegun, withRow, withRows, withCounted, confirmingBegun, writeEnded}
-use Rattle.protocol.specs.Phase.{isDown, isFetching, isUp, isStoring, isConfirming, isStoringStage, isConfirmingStage, atStage}
-use Rattle.protocol.specs.Sound.{everyFrom, rowUse, rowSound, peerSound, stageCounts, phaseCounts, attemptFits, amongAsked, countedAsked, rowsSound, peersSound, soundNode}
+use Rattle.protocol.specs.Node.{noPeers, half, ownItem, storedRow, peerOf, countPeers, withRow, withRows, withCounted, confirmingBegun, writeEnded}
+use Rattle.protocol.specs.Phase.{isFetching, isUp, isStoring, isConfirming, isStoringStage, isConfirmingStage, atStage}
+use Rattle.protocol.specs.Sound.{everyFrom, rowUse, rowSound, stageCounts, phaseCounts, attemptFits, countedAsked}
 use Rattle.protocol.specs.Storing.{askedUnder}
 use Rattle.protocol.specs.declared.Node.{Node}
 use Rattle.protocol.specs.declared.Peer.{Peer}
-use Rattle.protocol.specs.declared.Phase.{Phase}
-use Rattle.protocol.specs.declared.Phase.the-variants.{Fetching, Returning, Up}
+use Rattle.protocol.specs.declared.Phase.the-variants.{Returning}
 use Rattle.protocol.specs.declared.RowUse.{RowUse}
 use Rattle.protocol.specs.declared.RowUse.the-variants as row-use
 use Rattle.protocol.specs.declared.Stage.the-variants.{Storing, Confirming}
 use Rattle.protocol.proofs.Counts.{peerUnder}
 use Rattle.protocol.proofs.Rows.{merged-length}
-use Rattle.node_laws.proofs.Every.{every-set, every-same, every-weaker, one-more, not-none}
+use Rattle.node_laws.proofs.Every.{every-weaker, one-more, not-none}
 use Rattle.node_laws.proofs.Outcome.{asking}
 use Rattle.node_laws.proofs.PhaseCases.{fetching-cases, up-cases, storing-cases, confirming-cases}
-use Rattle.node_laws.proofs.SoundRows.{zero-sound, stored-sound, unused-fetched, merged-sound, rebuilt-sound}
-
--- what soundness says, field by field
-pub record Soundly (n k : ℕ) (node : Node) : Type 0 where
-  pub number-is : node .number ≡ k
-  pub size-is : node .n ≡ n
-  pub attempt-fits : attemptFits (node .phase) (node .attempt) ≡ true
-  pub rows-sound : everyFrom (rowSound (rowUse (node .phase) (countPeers (node .counted))) n) 0 (node .rows) ≡ true
-  pub counted-sound : peersSound k n (node .counted) ≡ true
-  pub asked-sound : peersSound k n (node .asked) ≡ true
-  pub counts-fit : phaseCounts (node .phase) (half n) (countPeers (node .counted)) (countPeers (node .asked)) ≡ true
-  pub among : countedAsked (node .phase) (node .counted) (node .asked) ≡ true
-
-pub read-sound : (n k : ℕ) (node : Node) → soundNode n k node ≡ true → Soundly n k node
-unfolding soundNode rowsSound
-read-sound n k node e =
-    let last : (peersSound k n (node .asked) &&
-        (phaseCounts (node .phase) (half n) (countPeers (node .counted)) (countPeers (node .asked)) &&
-        countedAsked (node .phase) (node .counted) (node .asked))) ≡ true = search and-right in
-    record {
-  number-is = search (and-left, eqb-true);
-  size-is = search (and-left, and-right, eqb-true);
-  attempt-fits = search (and-left, and-right);
-  rows-sound = search (and-left, and-right);
-  counted-sound = search (and-left, and-right);
-  asked-sound = search (and-left, and-right);
-  counts-fit = search (and-left, and-right);
-  among = search (and-left, and-right);
-}
-
-pub is-sound : (n k : ℕ) (node : Node) → Soundly n k node → soundNode n k node ≡ true
-unfolding soundNode rowsSound
-is-sound n k node s =
-    and-both (eq-eqb (node .number) k (s .number-is)) (and-both (eq-eqb (node .n) n (s .size-is))
-    (and-both (s .attempt-fits) (and-both (s .rows-sound) (and-both (s .counted-sound) (and-both (s .asked-sound)
-    (and-both (s .counts-fit) (s .among)))))))
-
--- ---- lists of rows and peers
-
-rows-in : (u : RowUse) (n : ℕ) (p : Phase) (c : ℕ) (rows : List Row) → rowUse p c ≡ u → everyFrom (rowSound u n) 0 rows ≡ true
-    → everyFrom (rowSound (rowUse p c) n) 0 rows ≡ true
-rows-in u n p c rows e h = subst (λ (v : RowUse). everyFrom (rowSound v n) 0 rows ≡ true) (sym e) h
-
-pub rows-of : (u : RowUse) (n : ℕ) (p : Phase) (c : ℕ) (rows : List Row) → rowUse p c ≡ u → everyFrom (rowSound (rowUse p c) n) 0 rows ≡ true
-    → everyFrom (rowSound u n) 0 rows ≡ true
-rows-of u n p c rows e h = subst (λ (v : RowUse). everyFrom (rowSound v n) 0 rows ≡ true) e h
-
-row-set : (n : ℕ) (rows : List Row) (q : ℕ) (item : Item) (i : Incarnation) (a : Attempt) → q < n
-    → everyFrom (rowSound row-use.Stored n) 0 rows ≡ true → everyFrom (rowSound row-use.Stored n) 0 (set rows q (storedRow item i a)) ≡ true
-row-set n rows q item i a l h =
-    every-set (rowSound row-use.Stored n) 0 rows q (storedRow item i a) h (λ j d. stored-sound n j item i a (omega arith))
-
-absent-sound : (k n j : ℕ) → peerSound k n j noPeer ≡ true
-unfolding peerSound sameIncarnation
-absent-sound k n j = refl
-
-none-sound : (k n : ℕ) → peersSound k n noPeers ≡ true
-unfolding peersSound
-none-sound k n = every-same (peerSound k n) noPeer (absent-sound k n) maxNodes 0
-
-peer-set : (k n : ℕ) (peers : List Peer) (q : ℕ) (i : Incarnation) → q < n → q ≢ k → peersSound k n peers ≡ true
-    → peersSound k n (set peers q (peerUnder i)) ≡ true
-unfolding peersSound peerSound
-peer-set k n peers q i l d h =
-    every-set (peerSound k n) 0 peers q (peerUnder i) h
-    (λ j e. and-both (lt-ltb j n (omega arith)) (ap not (ne-eqb j k (λ (z : j ≡ k). d (same q j k e z)))))
-  where
-    same : (q j k : ℕ) → j ≡ 0 + q → j ≡ k → q ≡ k
-    same q j k e z = omega arith
-
-none-fewer : (n : ℕ) → 0 < half n → ltb (countPeers noPeers) (half n) ≡ true
-unfolding countPeers
-none-fewer n f = lt-ltb 0 (half n) f
-
--- nobody counted is among any
-absent-among : (asked : List Peer) (j : ℕ) → amongAsked asked j noPeer ≡ true
-unfolding amongAsked
-absent-among asked j = refl
-
-none-among : (asked : List Peer) → everyFrom (amongAsked asked) 0 noPeers ≡ true
-none-among asked = every-same (amongAsked asked) noPeer (absent-among asked) maxNodes 0
-
--- one more is counted, who was asked
-among-set : (asked counted : List Peer) (s : ℕ) (i : Incarnation) → peerOf asked s .present ≡ true
-    → everyFrom (amongAsked asked) 0 counted ≡ true → everyFrom (amongAsked asked) 0 (set counted s (peerUnder i)) ≡ true
-unfolding amongAsked
-among-set asked counted s i h e =
-    every-set (amongAsked asked) 0 counted s (peerUnder i) e
-    (λ j z. let same : s ≡ j = omega arith in subst (λ (q : ℕ). peerOf asked q .present ≡ true) same h)
-
--- ---- Down, and Fetching before the first table
-
-module _ (n k : ℕ) (node : Node) (number : node .number ≡ k) (size : node .n ≡ n) where
-  pub crashed-sound : Soundly n k (crashed node)
-  unfolding crashed blankNode attemptFits sameAttempt rowUse phaseCounts countPeers countedAsked isConfirming
-  crashed-sound = record {
-    number-is = number;
-    size-is = size;
-    attempt-fits = refl;
-    rows-sound = every-same (rowSound row-use.Zero n) zeroRow (zero-sound row-use.Zero n) maxNodes 0;
-    counted-sound = none-sound k n;
-    asked-sound = none-sound k n;
-    counts-fit = refl;
-    among = refl;
-  }
-
-  pub started-sound : Soundly n k (started node)
-  unfolding started attemptFits sameAttempt rowUse phaseCounts countPeers countedAsked isConfirming
-  started-sound = record {
-    number-is = number;
-    size-is = size;
-    attempt-fits = refl;
-    rows-sound = every-same (rowSound row-use.Zero n) zeroRow (zero-sound row-use.Zero n) maxNodes 0;
-    counted-sound = none-sound k n;
-    asked-sound = none-sound k n;
-    counts-fit = and-both (lt-ltb 0 (suc (half n)) (omega arith)) refl;
-    among = refl;
-  }
-
-  -- ---- a write begins
-
-  pub begun-sound : (phase : Phase) (a : Attempt) (item : Item) → isStoring phase ≡ true → k < n → 0 < half n
-      → everyFrom (rowSound row-use.Stored n) 0 (node .rows) ≡ true → Soundly n k (storingBegun node phase a item)
-  unfolding storingBegun attemptFits rowUse phaseCounts stageCounts countPeers countedAsked isConfirming isConfirmingStage
-  begun-sound phase a item e l f h = record {
-    number-is = number;
-    size-is = size;
-    attempt-fits = storing-cases (λ p. attemptFits p a ≡ true) refl refl phase e;
-    rows-sound = rows-in row-use.Stored n phase 0 (set (node .rows) (node .number) (storedRow item (node .incarnation) a))
-        (storing-cases (λ p. rowUse p 0 ≡ row-use.Stored) refl refl phase e)
-        (row-set n (node .rows) (node .number) item (node .incarnation) a (omega arith) h);
-    counted-sound = none-sound k n;
-    asked-sound = none-sound k n;
-    counts-fit = storing-cases (λ p. phaseCounts p (half n) 0 0 ≡ true) (and-both (lt-ltb 0 (half n) f) refl) (and-both (lt-ltb 0 (half n) f) refl) phase e;
-    among = storing-cases (λ p. countedAsked p noPeers noPeers ≡ true) refl refl phase e;
-  }
-
--- ---- one more row, peer or table
+use Rattle.node_laws.proofs.SoundRows.{unused-fetched, merged-sound, rebuilt-sound}
+use Rattle.node_laws.proofs.Soundly.{Soundly, rows-in, rows-of, row-set, none-sound, peer-set, none-fewer, none-among, among-set, begun-sound}
 
 module _ (n k : ℕ) (node : Node) (S : Soundly n k node) (s : ℕ) (l : s < n) where
   pub row-sound : (item : Item) (i : Incarnation) (a : Attempt) → isUp (node .phase) ≡ true
@@ -180,7 +42,7 @@ module _ (n k : ℕ) (node : Node) (S : Soundly n k node) (s : ℕ) (l : s < n) 
   unfolding withRow rowUse
   row-sound item i a e =
       let stored : rowUse (node .phase) (countPeers (node .counted)) ≡ row-use.Stored
-          = up-cases (λ p. rowUse p (countPeers (node .counted)) ≡ row-use.Stored) (λ _. refl) (node .phase) e in
+      = up-cases (λ p. rowUse p (countPeers (node .counted)) ≡ row-use.Stored) (λ _. refl) (node .phase) e in
       record {
         number-is = S .number-is;
         size-is = S .size-is;
@@ -226,11 +88,15 @@ module _ (n k : ℕ) (node : Node) (S : Soundly n k node) (s : ℕ) (l : s < n) 
         let peers : List Peer = set (node .counted) s (peerUnder i) in
         let many : ltb (countPeers peers) (half n) ≡ false = subst (λ (m : ℕ). ltb (countPeers peers) (half m) ≡ false) (S .size-is) full in
         let less : ltb (countPeers (node .counted)) (half n) ≡ true = storing-cases
-            (λ p. phaseCounts p (half n) (countPeers (node .counted)) (countPeers (node .asked)) ≡ true → ltb (countPeers (node .counted)) (half n) ≡ true)
-            (and-left (ltb (countPeers (node .counted)) (half n)) (eqb (countPeers (node .asked)) 0))
-            (and-left (ltb (countPeers (node .counted)) (half n)) (eqb (countPeers (node .asked)) 0)) (node .phase) e (S .counts-fit) in
-        let exactly : countPeers peers ≡ half n = omega (arith, one-more (node .counted) s (peerUnder i) refl,
-            ltb-true (countPeers (node .counted)) (half n) less, ltb-false (countPeers peers) (half n) many) in
+        (λ p. phaseCounts p (half n) (countPeers (node .counted)) (countPeers (node .asked)) ≡ true → ltb (countPeers (node .counted)) (half n) ≡ true)
+        (and-left (ltb (countPeers (node .counted)) (half n)) (eqb (countPeers (node .asked)) 0))
+        (and-left (ltb (countPeers (node .counted)) (half n)) (eqb (countPeers (node .asked)) 0)) (node .phase) e (S .counts-fit) in
+        let exactly : countPeers peers ≡ half n = omega (
+          arith,
+          one-more (node .counted) s (peerUnder i) refl,
+          ltb-true (countPeers (node .counted)) (half n) less,
+          ltb-false (countPeers peers) (half n) many,
+        ) in
         record {
           number-is = S .number-is;
           size-is = S .size-is;
@@ -254,7 +120,7 @@ module _ (n k : ℕ) (node : Node) (S : Soundly n k node) (s : ℕ) (l : s < n) 
         let peers : List Peer = set (node .counted) s (peerUnder i) in
         let less : ltb (countPeers peers) (half n) ≡ true = subst (λ (m : ℕ). ltb (countPeers peers) (half m) ≡ true) (S .size-is) few in
         let in-asked : peerOf (node .asked) s .present ≡ true
-            = and-left (peerOf (node .asked) s .present) (sameIncarnation (peerOf (node .asked) s .incarnation) i) under in
+        = and-left (peerOf (node .asked) s .present) (sameIncarnation (peerOf (node .asked) s .incarnation) i) under in
         record {
           number-is = S .number-is;
           size-is = S .size-is;
@@ -335,5 +201,8 @@ module _ (n k : ℕ) (node : Node) (S : Soundly n k node) (s : ℕ) (l : s < n) 
           begun-sound n k (withTable node s i items) (S .number-is) (S .size-is) (Returning Storing) (record { 0 = 1 }) (ownItem (withTable node s i items))
           refl below f
           (rebuilt-sound n 0 (mergeRows (noneCounted node) (node .rows) items) fetched-rows
-          (omega (arith, merged-length (noneCounted node) (node .rows) items,
-          ltb-false (lowestMarked (mergeRows (noneCounted node) (node .rows) items)) maxNodes none)))
+          (omega (
+            arith,
+            merged-length (noneCounted node) (node .rows) items,
+            ltb-false (lowestMarked (mergeRows (noneCounted node) (node .rows) items)) maxNodes none,
+          )))
