@@ -10,7 +10,7 @@ use message::Envelope;
 use message::Message;
 use store::Survey;
 
-const NODES: usize = 15;
+const NODES: usize = item::MAX_NODES;
 
 // The surveys of each store.
 const TURNS: usize = 20000;

@@ -9,7 +9,7 @@ use Rattle.item.specs.Tests.{refuted, granted}
 use Rattle.protocol.specs.Node.{noPeer}
 use Rattle.protocol.specs.Sound.{everyFrom, amongAsked}
 use Rattle.node.proofs.Array.{length-mapped}
-use Rattle.soundness.proofs.Every.{every-passes, every-fails, every-passed}
+use Rattle.row_soundness.proofs.Every.{every-passes, every-fails, every-passed}
 use Rattle.soundness.proofs.all_among_asked.Statement.{statement}
 use Rattle.soundness.proofs.all_among_asked.Tie as tie
 

@@ -1,4 +1,4 @@
--- `soundness::every_row` meets its contract: at place k the rows from k on tell the answer.
+-- `row_soundness::every_row` meets its contract: at place k the rows from k on tell the answer.
 use Prim.Native.Nat.{_≤_, _-_}
 use mathlib.Core.Path.{_≡_, refl, _∙_}
 use lib.ListN.{length, drop}
@@ -9,9 +9,9 @@ use Rattle.item.specs.Tests.{refuted, granted}
 use Rattle.item.specs.Row.{zeroRow}
 use Rattle.protocol.specs.Sound.{everyFrom, rowSound}
 use Rattle.node.proofs.Array.{length-mapped}
-use Rattle.soundness.proofs.Every.{every-passes, every-fails, every-passed}
-use Rattle.soundness.proofs.every_row.Statement.{statement}
-use Rattle.soundness.proofs.every_row.Tie as tie
+use Rattle.row_soundness.proofs.Every.{every-passes, every-fails, every-passed}
+use Rattle.row_soundness.proofs.every_row.Statement.{statement}
+use Rattle.row_soundness.proofs.every_row.Tie as tie
 
 abbrev Inv-loop : tie.InvT-loop
 Inv-loop held n rows k₀ k =

@@ -1,8 +1,8 @@
--- `soundness::row_sound` meets its contract: rows from n on are judged as unused.
+-- `row_soundness::row_sound` meets its contract: rows from n on are judged as unused.
 use borrow.Author.Tests.{lt-ltb, le-ltb}
 use Rattle.protocol.specs.Sound.{rowSound}
-use Rattle.soundness.proofs.row_sound.Statement.{statement}
-use Rattle.soundness.proofs.row_sound.Tie as tie
+use Rattle.row_soundness.proofs.row_sound.Statement.{statement}
+use Rattle.row_soundness.proofs.row_sound.Tie as tie
 
 row-fits-requires : tie.Need-row-fits-requires
 row-fits-requires c κs = tt

@@ -1,9 +1,9 @@
--- `soundness::row_fits` meets its contract: an arm for each use of a row.
+-- `row_soundness::row_fits` meets its contract: an arm for each use of a row.
 use borrow.Author.Needs.{needs}
 use Rattle.item.specs.Tests.{refuted, granted}
 use Rattle.protocol.specs.Sound.{rowFits}
-use Rattle.soundness.proofs.row_fits.Statement.{statement}
-use Rattle.soundness.proofs.row_fits.Tie as tie
+use Rattle.row_soundness.proofs.row_fits.Statement.{statement}
+use Rattle.row_soundness.proofs.row_fits.Tie as tie
 
 enum-told : tie.Need-enum-told
 enum-told c = search needs

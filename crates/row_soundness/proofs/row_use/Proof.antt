@@ -1,8 +1,8 @@
--- `soundness::row_use` meets its contract: an arm for each phase.
+-- `row_soundness::row_use` meets its contract: an arm for each phase.
 use borrow.Author.Needs.{needs}
 use Rattle.protocol.specs.Sound.{rowUse}
-use Rattle.soundness.proofs.row_use.Statement.{statement}
-use Rattle.soundness.proofs.row_use.Tie as tie
+use Rattle.row_soundness.proofs.row_use.Statement.{statement}
+use Rattle.row_soundness.proofs.row_use.Tie as tie
 
 enum-told : tie.Need-enum-told
 enum-told c = search needs

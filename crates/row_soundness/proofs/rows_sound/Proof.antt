@@ -1,7 +1,7 @@
--- `soundness::rows_sound` meets its contract: it is the calls.
+-- `row_soundness::rows_sound` meets its contract: it is the calls.
 use Rattle.protocol.specs.Sound.{rowsSound}
-use Rattle.soundness.proofs.rows_sound.Statement.{statement}
-use Rattle.soundness.proofs.rows_sound.Tie as tie
+use Rattle.row_soundness.proofs.rows_sound.Statement.{statement}
+use Rattle.row_soundness.proofs.rows_sound.Tie as tie
 
 count-peers-requires : tie.Need-count-peers-requires
 count-peers-requires c κs = tt

@@ -1,8 +1,8 @@
--- `soundness::fetching_use` meets its contract: one test.
+-- `row_soundness::fetching_use` meets its contract: one test.
 use borrow.Author.Tests.{eq-eqb, ne-eqb}
 use Rattle.protocol.specs.Sound.{rowUse}
-use Rattle.soundness.proofs.fetching_use.Statement.{statement}
-use Rattle.soundness.proofs.fetching_use.Tie as tie
+use Rattle.row_soundness.proofs.fetching_use.Statement.{statement}
+use Rattle.row_soundness.proofs.fetching_use.Tie as tie
 
 returns : tie.Need-returns
 unfolding rowUse
