@@ -1,0 +1,91 @@
+-- A table checked node by node is document 01's sound table, and one filled node by node is the table that set-up leaves.
+use Prim.Native.Nat.{ℕ, zero, suc, _+_, _≤_, _<_}
+use mathlib.Core.Path.{_≡_, refl, sym, ap, _∙_}
+use mathlib.Core.Bool.{Bool, true, false, _&&_}
+use mathlib.Core.List.{List, [], _∷_, _++_, append-assoc, append-nil}
+use native.Mathlib.Omega.{arith}
+use lib.Dec.{eqb}
+use lib.ListN.{length, getD, set, take, drop, length-append, drop-of-length-le}
+use lib.Seq.{take-suc, take-length, length-take-le, drop-cons, set-append-seam}
+use Rattle.protocol.specs.Node.{freshNode}
+use Rattle.protocol.specs.Sound.{soundNode, everyFrom}
+use Rattle.protocol.specs.Table.{noNode, soundTable, freshNodes, freshTable}
+use Rattle.protocol.specs.declared.Node.{Node}
+use Rattle.table.specs.Check.{soundTo}
+use Rattle.table.specs.Fill.{freshTo}
+
+and-rest : (a b c : Bool) → ((a && b) && c) ≡ (a && (b && c))
+and-rest true b c = refl
+and-rest false b c = refl
+
+and-end : (a : Bool) → (a && true) ≡ a
+and-end true = refl
+and-end false = refl
+
+-- ---- checked
+
+-- one more element, at the end
+every-last : {A : Type 0} (test : ℕ → A → Bool) (k : ℕ) (xs : List A) (x : A) → everyFrom test k (xs ++ x ∷ []) ≡ (everyFrom test k xs && test (k + length xs) x)
+unfolding everyFrom
+every-last test k [] x =
+    let e : k + 0 ≡ k = omega arith in
+    rw e (and-end (test k x))
+every-last test k (y ∷ xs) x =
+    let e : k + suc (length xs) ≡ suc k + length xs = omega arith in
+    rw (e, every-last test (suc k) xs x) (sym (and-rest (test k y) (everyFrom test (suc k) xs) (test (suc k + length xs) x)))
+
+-- the first k nodes
+sound-first : (n : ℕ) (t : List Node) (k : ℕ) → k ≤ length t → soundTo n t k ≡ (eqb (length t) n && everyFrom (soundNode n) 0 (take k t))
+unfolding soundTo everyFrom
+sound-first n t zero h = sym (and-end (eqb (length t) n))
+sound-first n t (suc k) h =
+    let l : 0 + length (take k t) ≡ k = omega (arith, length-take-le k t (omega arith)) in
+    rw (sound-first n t k (omega arith), take-suc t k noNode (omega arith), every-last (soundNode n) 0 (take k t) (getD t k noNode), l)
+    (and-rest (eqb (length t) n) (everyFrom (soundNode n) 0 (take k t)) (soundNode n k (getD t k noNode)))
+
+pub sound-all : (n : ℕ) (t : List Node) → soundTo n t (length t) ≡ soundTable n t
+unfolding soundTable
+sound-all n t = sound-first n t (length t) (omega arith) ∙ ap (λ (l : List Node). eqb (length t) n && everyFrom (soundNode n) 0 l) (take-length t)
+
+-- ---- filled
+
+fresh-length : (n k left : ℕ) → length (freshNodes n k left) ≡ left
+unfolding freshNodes
+fresh-length n k zero = refl
+fresh-length n k (suc left) = ap suc (fresh-length n (suc k) left)
+
+-- one more node, at the end
+fresh-last : (n k left : ℕ) → freshNodes n k (suc left) ≡ freshNodes n k left ++ freshNode (k + left) n ∷ []
+unfolding freshNodes
+fresh-last n k zero =
+    let e : k + 0 ≡ k = omega arith in
+    ap (λ (j : ℕ). freshNode j n ∷ []) (sym e)
+fresh-last n k (suc left) =
+    let e : suc k + left ≡ k + suc left = omega arith in
+    ap (λ (l : List Node). freshNode k n ∷ l) (fresh-last n (suc k) left ∙ ap (λ (j : ℕ). freshNodes n (suc k) left ++ freshNode j n ∷ []) e)
+
+fresh-none : (n : ℕ) → freshNodes n 0 0 ≡ []
+unfolding freshNodes
+fresh-none n = refl
+
+-- the first k nodes, and the others as they were
+fresh-first : (n : ℕ) (t : List Node) (k : ℕ) → k ≤ length t → freshTo n t k ≡ freshNodes n 0 k ++ drop k t
+unfolding freshTo
+fresh-first n t zero h = ap (λ (l : List Node). l ++ t) (sym (fresh-none n))
+fresh-first n t (suc k) h =
+    let fs = freshNodes n 0 k in
+    let l : length fs ≡ k = fresh-length n 0 k in
+    let z : 0 + k ≡ k = omega arith in
+    ap (λ (u : List Node). set u k (freshNode k n)) (fresh-first n t k (omega arith) ∙ ap (λ (u : List Node). fs ++ u) (drop-cons t k noNode (omega arith)))
+    ∙ ap (λ (j : ℕ). set (fs ++ getD t k noNode ∷ drop (suc k) t) j (freshNode k n)) (sym l)
+    ∙ set-append-seam fs (getD t k noNode) (drop (suc k) t) (freshNode k n)
+    ∙ sym (append-assoc fs (freshNode k n ∷ []) (drop (suc k) t))
+    ∙ ap (λ (u : List Node). u ++ drop (suc k) t) (sym (fresh-last n 0 k ∙ ap (λ (j : ℕ). fs ++ freshNode j n ∷ []) z))
+
+pub fresh-all : (n : ℕ) (t : List Node) → length t ≡ n → freshTo n t (length t) ≡ freshTable n
+unfolding freshTable
+fresh-all n t e =
+    fresh-first n t (length t) (omega arith)
+    ∙ ap (λ (u : List Node). freshNodes n 0 (length t) ++ u) (drop-of-length-le t {i = length t} (omega arith))
+    ∙ append-nil (freshNodes n 0 (length t))
+    ∙ ap (freshNodes n 0) e
