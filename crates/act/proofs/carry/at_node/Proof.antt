@@ -12,7 +12,7 @@ refused-requires : tie.Need-refused-requires
 refused-requires c κs = search needs
 
 returns : tie.Need-returns
-returns c = let a = c .before .before .before .before .args in let e = at-none (a .node) (now (a .s)) (a .seen) (a .k) (a .step) (c .before .if1 .taken) in (c .refused .ensures ∙ ap handedBack (sym e),  ap (λ (o : Outcome). o .store) (sym e))
+returns c = let a = c .before .before .before .before .args in let e = at-none (a .node) (now (a .s)) (a .seen) (a .k) (a .step) (c .before .if1 .taken) in (c .refused .ensures ∙ ap handedBack (sym e), ap (λ (o : Outcome). o .store) (sym e))
 
 carry-out-requires : tie.Need-carry-out-requires
 carry-out-requires c κs = search needs

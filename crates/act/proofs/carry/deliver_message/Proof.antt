@@ -23,7 +23,7 @@ same-length : tie.Need-same-length
 same-length c = search needs
 
 returns : tie.Need-returns
-returns c = let a = c .before .before .before .before .before .before .args in let e = delivered-none (a .node) (now (a .s)) (a .r) (a .free) (sym (c .before .before .before .message .ensures) ∙ c .before .enum-told .given .1) in (c .refused .ensures ∙ ap handedBack (sym e),  ap (λ (o : Outcome). o .store) (sym e))
+returns c = let a = c .before .before .before .before .before .before .args in let e = delivered-none (a .node) (now (a .s)) (a .r) (a .free) (sym (c .before .before .before .message .ensures) ∙ c .before .enum-told .given .1) in (c .refused .ensures ∙ ap handedBack (sym e), ap (λ (o : Outcome). o .store) (sym e))
 
 rows-requires : tie.Need-rows-requires
 rows-requires c κs = search needs

@@ -23,7 +23,7 @@ same-length : tie.Need-same-length
 same-length c = search needs
 
 returns : tie.Need-returns
-returns c = let a = c .before .before .before .before .before .before .args in let e = dropped-none (a .node) (now (a .s)) (a .r) (sym (c .before .before .before .message .ensures) ∙ c .before .enum-told .given .1) in (c .refused .ensures ∙ ap handedBack (sym e),  ap (λ (o : Outcome). o .store) (sym e))
+returns c = let a = c .before .before .before .before .before .before .args in let e = dropped-none (a .node) (now (a .s)) (a .r) (sym (c .before .before .before .message .ensures) ∙ c .before .enum-told .given .1) in (c .refused .ensures ∙ ap handedBack (sym e), ap (λ (o : Outcome). o .store) (sym e))
 
 drop-message-requires : tie.Need-drop-message-requires
 drop-message-requires c κs = search needs
@@ -32,7 +32,7 @@ same-length-2 : tie.Need-same-length-2
 same-length-2 c = search needs
 
 returns-2 : tie.Need-returns-2
-returns-2 c = let a = c .before .before .before .before .before .before .before .before .before .before .args in let e = dropped-some (a .node) (now (a .s)) (a .r) (sym (c .before .before .before .before .before .before .before .message .ensures) ∙ c .before .before .before .before .before .envelope .given .1) in ( ap handedBack (sym e), c .before .before .drop-message .ensures ∙ ap (λ (o : Outcome). o .store) (sym e))
+returns-2 c = let a = c .before .before .before .before .before .before .before .before .before .before .args in let e = dropped-some (a .node) (now (a .s)) (a .r) (sym (c .before .before .before .before .before .before .before .message .ensures) ∙ c .before .before .before .before .before .envelope .given .1) in (ap handedBack (sym e), c .before .before .drop-message .ensures ∙ ap (λ (o : Outcome). o .store) (sym e))
 
 pub drop-message-spec : {M : Type 1} → statement M
 drop-message-spec =

@@ -13,19 +13,19 @@ refused-requires : tie.Need-refused-requires
 refused-requires c κs = search needs
 
 returns : tie.Need-returns
-returns c = let a = c .before .before .before .args in let e = acted-length (a .event) (a .sound-table) (a .seen) (a .node) (now (a .s)) (c .before .if1 .taken) in (c .refused .ensures ∙ ap handedBack (sym e),  ap (λ (o : Outcome). o .store) (sym e))
+returns c = let a = c .before .before .before .args in let e = acted-length (a .event) (a .sound-table) (a .seen) (a .node) (now (a .s)) (c .before .if1 .taken) in (c .refused .ensures ∙ ap handedBack (sym e), ap (λ (o : Outcome). o .store) (sym e))
 
 refused-requires-2 : tie.Need-refused-requires-2
 refused-requires-2 c κs = search needs
 
 returns-2 : tie.Need-returns-2
-returns-2 c = let a = c .before .before .before .before .before .args in let e = acted-store (a .event) (a .sound-table) (a .seen) (a .node) (now (a .s)) (right (now (a .s)) (c .before .before .before .if1 .left)) (not-true (a .seen .sound) (c .before .if2 .taken)) in (c .refused2 .ensures ∙ ap handedBack (sym e),  ap (λ (o : Outcome). o .store) (sym e))
+returns-2 c = let a = c .before .before .before .before .before .args in let e = acted-store (a .event) (a .sound-table) (a .seen) (a .node) (now (a .s)) (right (now (a .s)) (c .before .before .before .if1 .left)) (not-true (a .seen .sound) (c .before .if2 .taken)) in (c .refused2 .ensures ∙ ap handedBack (sym e), ap (λ (o : Outcome). o .store) (sym e))
 
 refused-requires-3 : tie.Need-refused-requires-3
 refused-requires-3 c κs = search needs
 
 returns-3 : tie.Need-returns-3
-returns-3 c = let a = c .before .before .before .before .before .before .args in let e = acted-table (a .event) (a .sound-table) (a .seen) (a .node) (now (a .s)) (right (now (a .s)) (c .before .before .before .before .if1 .left)) (not-false (a .seen .sound) (c .before .before .if2 .left)) (not-true (a .sound-table) (c .before .if3 .taken)) in (c .refused3 .ensures ∙ ap handedBack (sym e),  ap (λ (o : Outcome). o .store) (sym e))
+returns-3 c = let a = c .before .before .before .before .before .before .args in let e = acted-table (a .event) (a .sound-table) (a .seen) (a .node) (now (a .s)) (right (now (a .s)) (c .before .before .before .before .if1 .left)) (not-false (a .seen .sound) (c .before .before .if2 .left)) (not-true (a .sound-table) (c .before .if3 .taken)) in (c .refused3 .ensures ∙ ap handedBack (sym e), ap (λ (o : Outcome). o .store) (sym e))
 
 on-sound-requires : tie.Need-on-sound-requires
 on-sound-requires c κs = search needs
