@@ -6,14 +6,14 @@ use item::Incarnation;
 use item::Item;
 use item::Row;
 use message::Message;
-use node::ok;
-use node::refused;
 use node::row_of;
 use phase::is_up;
 use protocol::Node;
 use protocol::Refusal;
 use protocol::Sends;
 use protocol::Step;
+use step::ok;
+use step::refused;
 ghost use mathlib.Core.Path.{_≡_};
 ghost use Rattle.protocol.specs.Storing.{storedUnder, onConfirm};
 

@@ -7,8 +7,6 @@ use item::Item;
 use item::Row;
 use item::counters_earlier;
 use message::Message;
-use node::ok;
-use node::refused;
 use node::row_of;
 use node::with_row;
 use phase::is_up;
@@ -17,6 +15,8 @@ use protocol::Refusal;
 use protocol::Sends;
 use protocol::Step;
 use protocol::Verdict;
+use step::ok;
+use step::refused;
 ghost use mathlib.Core.Path.{_≡_};
 ghost use Rattle.protocol.specs.Storing.{storeVerdict, replyStore, onStore};
 

@@ -1,15 +1,15 @@
 // Crash and Start of one node by value: its answer, the node afterwards, and what it sends. Everything is proved, no
 // public function has a `requires`, and each gives what one definition of the crate `protocol` says.
 use node::crashed;
-use node::ok;
-use node::refused;
-use node::send_fetch;
 use node::started;
 use phase::is_down;
 use protocol::Node;
 use protocol::Refusal;
 use protocol::Sends;
 use protocol::Step;
+use step::ok;
+use step::refused;
+use step::send_fetch;
 ghost use mathlib.Core.Path.{_≡_};
 ghost use Rattle.protocol.specs.Write.{crashStep, startStep};
 

@@ -1,9 +1,6 @@
 // Retry of one node by value: its answer, the node afterwards, and what it sends. Everything is proved, no public
 // function has a `requires`, and each gives what one definition of the crate `protocol` says.
 use node::own_item;
-use node::refused;
-use node::send_fetch;
-use node::send_store;
 use node::storing_begun;
 use phase::at_stage;
 use phase::is_down;
@@ -13,6 +10,9 @@ use protocol::Node;
 use protocol::Refusal;
 use protocol::Stage;
 use protocol::Step;
+use step::refused;
+use step::send_fetch;
+use step::send_store;
 ghost use mathlib.Core.Path.{_≡_};
 ghost use Rattle.protocol.specs.Write.{retried as retriedNode, nothingToRetry, retryStep};
 

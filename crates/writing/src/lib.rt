@@ -3,8 +3,6 @@
 use item::Item;
 use item::Tag;
 use node::own_item;
-use node::refused;
-use node::send_store;
 use node::storing_begun;
 use phase::is_up_idle;
 use protocol::Node;
@@ -12,6 +10,8 @@ use protocol::Phase;
 use protocol::Refusal;
 use protocol::Stage;
 use protocol::Step;
+use step::refused;
+use step::send_store;
 ghost use mathlib.Core.Path.{_≡_};
 ghost use Rattle.protocol.specs.Write.{nextItem, writeAtLargest, written as writtenNode, writeStep};
 
