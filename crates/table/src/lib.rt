@@ -8,8 +8,7 @@ ghost use Prim.Native.Nat.{_<_};
 ghost use lib.ListN.{length, set, getD};
 ghost use Rattle.protocol.specs.Node.{freshNode};
 ghost use Rattle.protocol.specs.Sound.{soundNode};
-ghost use Rattle.protocol.specs.Table.{noNode};
-ghost use Rattle.table.specs.Check.{soundTo};
+ghost use Rattle.protocol.specs.Table.{noNode, soundTable};
 ghost use Rattle.table.specs.Fill.{freshTo};
 
 // The node at `i`.
@@ -51,7 +50,7 @@ fn and_sound(ok: bool, node: Node, i: usize, n: usize) -> bool
 
 // Whether the table has n nodes and each is sound at its place.
 pub fn check_table(table: &[Node], n: usize) -> bool
-    ensures { λ r. ⌜ r ≡ soundTo n (now (table .entry)) (length (now (table .entry))) ⌝ }
+    ensures { λ r. ⌜ r ≡ soundTable n (now (table .entry)) ⌝ }
 {
     let mut ok = table.len() == n;
     let mut i: usize = 0;
