@@ -8,6 +8,6 @@ nAt = 8
 abbrev pub placeAt : ℕ
 placeAt = 24
 
--- of `act::Acted`: the node stands after the answer
-abbrev pub nodeAfter : ℕ
-nodeAfter = 24
+-- of `act::Acted` and `Prepared`: what stands after the answer
+abbrev pub afterAnswer : ℕ
+afterAnswer = 24

@@ -68,12 +68,12 @@ fn fresh_at(i: usize, n: usize) -> Node
     node::fresh_node(i, n)
 }
 
-// Every node becomes that of a group of n as it is set up.
+// The first n nodes become those of a group of n as it is set up; a table of fewer nodes is filled to its end.
 pub fn fill_table(table: &mut [Node], n: usize)
-    ensures { λ _. ⌜ now (table .exit) ≡ freshTo n (now (table .entry)) (length (now (table .entry))) ⌝ }
+    ensures { λ _. ⌜ now (table .exit) ≡ freshTo n (now (table .entry)) n ⌝ }
 {
     let mut i: usize = 0;
-    while i < table.len() {
+    while i < n {
         replace_node(table, i, fresh_at(i, n));
         i += 1;
     }

@@ -50,7 +50,7 @@ use Rattle.outcome.specs.declared.Acted.{Acted}
 use Rattle.outcome.specs.declared.Seen.{Seen}
 use Rattle.outcome.specs.Act.{acted, handedBack}
 use Rattle.group.specs.AtPlace.{atPlace}
-use Rattle.group.proofs.Offsets.{placeAt, nodeAfter}
+use Rattle.group.proofs.Offsets.{placeAt, afterAnswer}
 use Rattle.table.proofs.Shared.{LentShared, lends-shared, shared-back}
 use Rattle.protocol.proofs.Event as K
 use Rattle.protocol.proofs.Event.Laws as K′
@@ -244,7 +244,7 @@ module _ {M : Type 1} (𝓤 : URA M) (H : Heap 𝓤) (A : Atoms 𝓤) (W : Given
         -- `replace_node`, which is given the table for good
         assigns ! (addr ! (from ! (fld ! refl (hop ! (look-in ! 39 (sub ! 0 refl (whole !))) (stop !))))) (from ! (stop !)) (init ! 13 refl (tt, tt)) $
         assigns ! (agg ! (and-then ! (load ! (from ! (stop !)) (look ! 13 refl)) (and-then ! (load ! (from ! (fld ! refl (stop !))) (look-in ! 39 (sub ! 1 refl (whole !)))) (no-more !)))) (from ! (stop !)) (init ! 11 refl (tt, (tt, (record { fits = room .0 }, tt)))) $
-        move ! (6 ∷ 5 ∷ []) $ use2 W (raw (Replace 𝓤 H A mem run .pre (to-replace r₂))) (goes-replace r₂ gi (node-is r₂ _ is₂)) $ calls-at ! fm (Replace 𝓤 H A mem run) known-replace (to-replace r₂) (and-then ! (load ! (from ! (stop !)) (look ! 10 refl)) (and-then ! (load ! (from ! (fld ! {τ = tyInt w64} {d = placeAt} refl (stop !))) (look-in ! 32 (sub ! 3 {τ = tyInt w64} {d = placeAt} refl (whole !)))) (and-then ! (load ! (from ! (fld ! {τ = T′.mir} {d = nodeAfter} refl (stop !))) (look-in ! 26 (sub ! 1 {τ = T′.mir} {d = nodeAfter} refl (whole !)))) (no-more !)))) (λ w₃.
+        move ! (6 ∷ 5 ∷ []) $ use2 W (raw (Replace 𝓤 H A mem run .pre (to-replace r₂))) (goes-replace r₂ gi (node-is r₂ _ is₂)) $ calls-at ! fm (Replace 𝓤 H A mem run) known-replace (to-replace r₂) (and-then ! (load ! (from ! (stop !)) (look ! 10 refl)) (and-then ! (load ! (from ! (fld ! {τ = tyInt w64} {d = placeAt} refl (stop !))) (look-in ! 32 (sub ! 3 {τ = tyInt w64} {d = placeAt} refl (whole !)))) (and-then ! (load ! (from ! (fld ! {τ = T′.mir} {d = afterAnswer} refl (stop !))) (look-in ! 26 (sub ! 1 {τ = T′.mir} {d = afterAnswer} refl (whole !)))) (no-more !)))) (λ w₃.
         use1 W (later (some (λ (r : Unit {0}). ((‵ (flft κ q) ⊛ ‵ ftrue) ⊛ ‵ (Nothing .own r (w₃ ∷ []))) ⊛ raw (ensured 𝓤 H A replace.ended (replace.clauses 𝓤 H A mem run) (κ, tt) (x γ, (seen .place, (r₂ .node, tt))) tt r)))) (id⊢ 𝓤 _) $ await ! tt $ pick ! (λ r₃. split ! $ move ! (1 ∷ []) $
         use1 W (some (λ (zs : List Node × (Unit {0} × (Unit {0} × Unit {0}))). ‵ (lasts replace.ended (κ, tt) (x γ, (seen .place, (r₂ .node, tt))) zs) ⊛ raw (fact 𝓤 (zs .0 ≡ set ys (seen .place) (r₂ .node))))) (id⊢ 𝓤 _) $ pick ! (λ zs₃. split ! $ move ! (1 ∷ []) $
         heard ! (zs₃ .0 ≡ set ys (seen .place) (r₂ .node)) (λ e₃. fsplit ! $ fsplit ! $ move ! (1 ∷ []) $ feqL ! (λ same₃. move ! (2 ∷ []) $ split ! $ split ! $ move ! (2 ∷ []) $ peeks ! Nothing (Is Nothing) (shows 𝓤 H A Nothing) r₃ (w₃ ∷ []) (λ is₃. land ! (from ! (stop !)) (init ! 18 refl (nothing-lawful 𝓤 H A W .typed r₃ _ is₃ .0)) $
