@@ -259,10 +259,10 @@ module _ (n : ℕ) (table : List Node) (store : List ℕ) (G : SoundGroup n tabl
   on-sound (event.Drop r) t = drops r (messageIn (recordsOf store) r) refl
   on-sound (event.Deliver r) t = delivers-any r (messageIn (recordsOf store) r) refl
 
+  -- on a sound group it is the event alone that decides
+  pub performed-is : (e : Event) → perform e table store ≡ onSound e table store (recordsOf store)
+  unfolding perform onRecords
+  performed-is e = rw (store-right store group-store, group-records, G .size, group-table)
+
   pub performs : (e : Event) → TagFits e → LeavesSound n (perform e table store)
-  unfolding perform onRecords refuse
-  performs e t =
-      by-cond (LeavesSound n) (rightLength store) _ _
-      (λ _. by-cond (LeavesSound n) (soundRecords (recordsOf store) && soundTable (groupSize (recordsOf store)) table) _ _
-      (λ _. on-sound e t) (λ _. G))
-      (λ _. G)
+  performs e t = subst (LeavesSound n) (sym (performed-is e)) (on-sound e t)

@@ -38,7 +38,7 @@ use Rattle.node_laws.proofs.Soundly.{is-sound, none-sound}
 use Rattle.node_laws.proofs.SoundRows.{zero-sound}
 use Rattle.run_laws.specs.Laws.{areSound, SoundGroup, LeavesSound, SetUpIsSound, SoundStaysSound, left, RunsStaySound, NeverUnsound}
 use Rattle.run_laws.proofs.Bytes.{empty-records-bytes, joined-bytes}
-use Rattle.run_laws.proofs.Keeps.{group-store, group-records, group-table, performs}
+use Rattle.run_laws.proofs.Keeps.{performed-is, performs}
 use Rattle.run_laws.proofs.Numbers.{Above, on-sound-above}
 
 -- ---- set-up
@@ -115,10 +115,7 @@ runs-stay-sound n table store ok events t = stays n events t (setUp n table stor
 
 module _ (n : ℕ) where
   performed-above : (e : Event) (table : List Node) (store : List ℕ) → SoundGroup n table store → Above (perform e table store)
-  unfolding perform onRecords
-  performed-above e table store G =
-      rw (store-right store (group-store n table store G), group-records n table store G, G .size, group-table n table store G)
-      (on-sound-above table store (recordsOf store) e)
+  performed-above e table store G = subst Above (sym (performed-is n table store G e)) (on-sound-above table store (recordsOf store) e)
 
   never : (events : List Event) → TagsFit events → (table : List Node) (store : List ℕ) → SoundGroup n table store → (call : Call)
       → List·Memᴰ call (calls table store events) → (why : Refusal) → call .answer ≡ answer.Refused why → 4 ≤ refusalNumber why
