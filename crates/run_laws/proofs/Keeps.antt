@@ -1,20 +1,23 @@
 -- Every operation keeps a sound table and store sound: a decision that is carried out puts into the store only messages for
 -- the group, and leaves a sound node in its place.
-use Prim.Native.Nat.{ℕ, zero, suc, _+_, _≤_, _<_}
+use Prim.Native.Nat.{ℕ, zero, suc, _+_, _^_, _≤_, _<_}
 use native.Mathlib.Omega.{arith}
 use native.Mathlib.Nat.{zero-add}
 use mathlib.Core.Path.{_≡_, refl, sym, ap, subst, _∙_}
 use mathlib.Core.Logic.{_≢_}
-use mathlib.Core.Bool.{Bool, true, false, _&&_, false≢true}
-use mathlib.Core.List.{List, [], _∷_}
+use mathlib.Core.Bool.{Bool, true, false, false≢true}
+use mathlib.Core.List.{List, [], _∷_, List·Memᴰ}
 use lib.Dec.{eqb, ltb}
 use lib.ListN.{length, getD, set, length-set}
 use borrow.Author.Tests.{eqb-true, eq-eqb, ltb-true, ltb-false}
-use Rattle.item.specs.Maxima.{maxNodes, validSize}
+use Rattle.item.specs.Maxima.{maxNodes, tagSize, validSize}
 use Rattle.item.specs.Tests.{by-cond, and-left, and-right, and-both}
-use Rattle.layout.specs.Layout.{rowsOf}
+use Rattle.item.specs.declared.Tag.{Tag}
+use Rattle.layout.specs.Layout.{rowsOf, heldRows}
 use Rattle.message.specs.declared.Envelope.{Envelope}
-use Rattle.record.specs.Record.{readRecord}
+use Rattle.message.specs.declared.Outgoing.{Outgoing}
+use Rattle.record.specs.Record.{readRecord, recordBytes}
+use Rattle.record.specs.RoundTrip.{Fits, RowsFit, ReadsBack, reads-back}
 use Rattle.record.specs.declared.Reading.{Reading}
 use Rattle.record.specs.declared.Reading.the-variants.{Found, Fault}
 use Rattle.store.specs.Change.{putEach, countOutgoing, dropIn}
@@ -26,7 +29,7 @@ use Rattle.chains.specs.Drop.{DropDone, drop-done}
 use Rattle.chains.specs.Message.{message-inbox}
 use Rattle.chains.specs.OnChains.{sound-valid}
 use Rattle.chains.specs.Put.{ForGroup}
-use Rattle.chains.specs.PutEach.{AllForGroup, EachDone, put-each-done}
+use Rattle.chains.specs.PutEach.{AllForGroup, put-each-done}
 use Rattle.chains.specs.Sound.{store-right, store-sound}
 use Rattle.chains.specs.Widths.{for-group}
 use Rattle.protocol.specs.Claim.{TagFits}
@@ -90,6 +93,17 @@ module _ (n : ℕ) (table : List Node) (e : soundTable n table ≡ true) where
       (every-set (soundNode n) 0 table k node (and-right (eqb (length table) n) (everyFrom (soundNode n) 0 table) e)
       (λ j d. subst (λ (i : ℕ). soundNode n i node ≡ true) (sym (d ∙ zero-add k)) s))
 
+-- ---- a decision that may be carried out
+
+-- the decision of node k of a sound group: it leaves a sound node, whose numbers fit as all that it sends does, and it answers
+-- no one but another node
+pub record Decided (n : ℕ) (table : List Node) (k back : ℕ) (step : Step) : Type 0 where
+  pub low : k < n
+  pub sound : soundNode n k (step .node) ≡ true
+  pub shaped : Shaped (step .node)
+  pub fits : StepFits (nodeAt table k) step
+  pub other : isBack (step .sends) ≡ true → back ≢ k
+
 -- ---- a sound group
 
 module _ (n : ℕ) (table : List Node) (store : List ℕ) (G : SoundGroup n table store) where
@@ -108,7 +122,7 @@ module _ (n : ℕ) (table : List Node) (store : List ℕ) (G : SoundGroup n tabl
   pub group-valid : validSize n ≡ true
   group-valid = subst (λ (i : ℕ). validSize i ≡ true) (G .size) (sound-valid (recordsOf store) group-records)
 
-  store-of : StoreOf n store
+  pub store-of : StoreOf n store
   store-of = record { right = store-right store group-store; size = G .size }
 
   pub stands : (k : ℕ) → k < n → Stands n k (nodeAt table k)
@@ -135,24 +149,43 @@ module _ (n : ℕ) (table : List Node) (store : List ℕ) (G : SoundGroup n tabl
         }
 
   -- the decision `step` of node k
-  module _ (k back : ℕ) (step : Step) (low : k < n) (sound : soundNode n k (step .node) ≡ true) (shaped : Shaped (step .node))
-      (F : StepFits (nodeAt table k) step) (other : isBack (step .sends) ≡ true → back ≢ k) where
-    for-all : AllForGroup (groupSize (recordsOf store)) (outgoing (step .node) (step .sends) back) (rowItems (step .node))
-    unfolding AllForGroup
-    for-all o m p =
-        let g : Going n k (o .envelope) = going n k back (step .node) sound (step .sends) other o m p in
+  module _ (k back : ℕ) (step : Step) (D : Decided n table k back step) where
+    number-low : step .node .number < 16
+    number-low =
+        let number : step .node .number ≡ k = number-is n k (step .node) (D .sound) in
         let most : n ≤ maxNodes = size-fits n group-valid in
-        let number : step .node .number ≡ k = number-is n k (step .node) sound in
-        let size : step .node .n ≡ n = size-is n k (step .node) sound in
-        subst (λ (i : ℕ). ForGroup i (o .envelope) (rowItems (step .node))) (sym (G .size))
-        (for-group n (o .envelope) (rowItems (step .node)) (omega (arith, g .from-k)) (g .to-group) (λ z. g .to-other (sym (g .from-k) ∙ z))
-        (outgoing-fits (step .node) (step .sends) back (F .node-fits) (F .sends-fit) (omega arith) (omega arith) o m p)
-        (rows-fit (rowItems (step .node)) (node-items-fit (step .node) (F .node-fits))))
+        omega (arith, D .low)
 
-    pub done : countOutgoing (outgoing (step .node) (step .sends) back) ≤ freeCount (recordsOf store)
-        → EachDone (recordsOf store) (putEach (recordsOf store) (outgoing (step .node) (step .sends) back) (rowItems (step .node)))
-        (countOutgoing (outgoing (step .node) (step .sends) back))
-    done = put-each-done (outgoing (step .node) (step .sends) back) (recordsOf store) (rowItems (step .node)) (store-sound store group-store) for-all
+    size-low : step .node .n ≤ 16
+    size-low =
+        let size : step .node .n ≡ n = size-is n k (step .node) (D .sound) in
+        let most : n ≤ maxNodes = size-fits n group-valid in
+        omega arith
+
+    envelope-fits : (o : Outgoing) → List·Memᴰ o (outgoing (step .node) (step .sends) back) → o .present ≡ true → Fits (o .envelope)
+    envelope-fits = outgoing-fits (step .node) (step .sends) back (D .fits .node-fits) (D .fits .sends-fit) number-low size-low
+
+    items-fit : RowsFit (rowItems (step .node))
+    items-fit = rows-fit (rowItems (step .node)) (node-items-fit (step .node) (D .fits .node-fits))
+
+    -- what it sends may be put, and reads back with the rows beside it
+    pub all-for-group : AllForGroup (groupSize (recordsOf store)) (outgoing (step .node) (step .sends) back) (rowItems (step .node))
+    unfolding AllForGroup
+    all-for-group o m p =
+        let g : Going n k (o .envelope) = going n k back (step .node) (D .sound) (step .sends) (D .other) o m p in
+        subst (λ (i : ℕ). ForGroup i (o .envelope) (rowItems (step .node))) (sym (G .size))
+        (for-group n (o .envelope) (rowItems (step .node)) (omega (arith, g .from-k, D .low)) (g .to-group) (λ z. g .to-other (sym (g .from-k) ∙ z))
+        (envelope-fits o m p) items-fit)
+
+    pub all-read : (o : Outgoing) → List·Memᴰ o (outgoing (step .node) (step .sends) back) → o .present ≡ true
+        → rowsOf (recordBytes n 0 (o .envelope) (rowItems (step .node))) ≡ heldRows (o .envelope .message) n (rowItems (step .node))
+    unfolding ReadsBack
+    all-read o m p = reads-back n 0 (o .envelope) (rowItems (step .node)) (omega arith) (envelope-fits o m p) items-fit .1
+
+    pub records-are : recordsOf (joined (putEach (recordsOf store) (outgoing (step .node) (step .sends) back) (rowItems (step .node))))
+        ≡ putEach (recordsOf store) (outgoing (step .node) (step .sends) back) (rowItems (step .node))
+    records-are =
+        store-after n store _ store-of (put-each-local (outgoing (step .node) (step .sends) back) (recordsOf store) (rowItems (step .node))) .1
 
     accepted : (a : Answer) → countOutgoing (outgoing (step .node) (step .sends) back) ≤ freeCount (recordsOf store)
         → LeavesSound n (record {
@@ -164,15 +197,16 @@ module _ (n : ℕ) (table : List Node) (store : List ℕ) (G : SoundGroup n tabl
     accepted a room =
         changed-sound (putEach (recordsOf store) (outgoing (step .node) (step .sends) back) (rowItems (step .node)))
         (store-after n store _ store-of (put-each-local (outgoing (step .node) (step .sends) back) (recordsOf store) (rowItems (step .node))))
-        (done room .sound .is-sound)
-        (set table k (step .node)) (node-set n table group-table k (step .node) sound)
+        (put-each-done (outgoing (step .node) (step .sends) back) (recordsOf store) (rowItems (step .node)) (store-sound store group-store) all-for-group room
+        .sound .is-sound)
+        (set table k (step .node)) (node-set n table group-table k (step .node) (D .sound))
         (record {
-          shaped = set-any Shaped table k (step .node) noNode shaped (G .within .shaped);
-          fit = set-any NodeFits table k (step .node) noNode (F .node-fits) (G .within .fit);
+          shaped = set-any Shaped table k (step .node) noNode (D .shaped) (G .within .shaped);
+          fit = set-any NodeFits table k (step .node) noNode (D .fits .node-fits) (G .within .fit);
           bytes = joined-bytes _ (put-each-bytes (outgoing (step .node) (step .sends) back) (recordsOf store) (rowItems (step .node)) (records-bytes store (G .within .bytes)));
         })
 
-    pub carried : LeavesSound n (carriedOut table store (recordsOf store) k back step)
+    carried : LeavesSound n (carriedOut table store (recordsOf store) k back step)
     unfolding carriedOut sentBy refuse
     carried =
         by-cond (LeavesSound n) (isRefused (step .answer)) _ _
@@ -182,16 +216,43 @@ module _ (n : ℕ) (table : List Node) (store : List ℕ) (G : SoundGroup n tabl
         (λ e. accepted (step .answer)
         (ltb-false (freeCount (recordsOf store)) (countOutgoing (outgoing (step .node) (step .sends) back)) e)))
 
-  at-node : (f : Node → Step) (k : ℕ) → ((node : Node) → Stands n k node → soundNode n k (f node .node) ≡ true)
-      → ((node : Node) → Shaped node → Shaped (f node .node)) → ((node : Node) → NodeFits node → StepFits node (f node))
-      → ((node : Node) → isBack (f node .sends) ≡ false) → LeavesSound n (atNode f k table store (recordsOf store))
+  -- the four calls
+  module _ (k : ℕ) (low : k < n) where
+    call-decided : (f : Node → Step) → soundNode n k (f (nodeAt table k) .node) ≡ true → ((node : Node) → Shaped node → Shaped (f node .node))
+        → ((node : Node) → NodeFits node → StepFits node (f node)) → ((node : Node) → isBack (f node .sends) ≡ false)
+        → Decided n table k k (f (nodeAt table k))
+    call-decided f sound shape fit quiet =
+        record {
+          low = low;
+          sound = sound;
+          shaped = shape (nodeAt table k) (G .within .shaped k);
+          fits = fit (nodeAt table k) (G .within .fit k);
+          other = λ z. absurd (false≢true (sym (quiet (nodeAt table k)) ∙ z));
+        }
+
+    pub write-decided : (tag : Tag) → tag .0 < 256 ^ tagSize → Decided n table k k (writeStep (nodeAt table k) tag)
+    unfolding SoundStaysSound MayCome decide
+    write-decided tag t =
+        call-decided (λ node. writeStep node tag) (sound-stays-sound n k (Write tag) (nodeAt table k) (stands k low) tt)
+        (λ node s. write-shaped node tag s) (λ node f. write-fits node f tag t) (λ node. write-not node tag)
+
+    pub retry-decided : Decided n table k k (retryStep (nodeAt table k))
+    unfolding SoundStaysSound MayCome decide
+    retry-decided = call-decided retryStep (sound-stays-sound n k Retry (nodeAt table k) (stands k low) tt) retry-shaped retry-fits retry-not
+
+    pub crash-decided : Decided n table k k (crashStep (nodeAt table k))
+    unfolding SoundStaysSound MayCome decide
+    crash-decided = call-decided crashStep (sound-stays-sound n k Crash (nodeAt table k) (stands k low) tt) crash-shaped crash-fits crash-not
+
+    pub start-decided : Decided n table k k (startStep (nodeAt table k))
+    unfolding SoundStaysSound MayCome decide
+    start-decided = call-decided startStep (sound-stays-sound n k Start (nodeAt table k) (stands k low) tt) start-shaped start-fits start-not
+
+  at-node : (f : Node → Step) (k : ℕ) → (k < n → Decided n table k k (f (nodeAt table k))) → LeavesSound n (atNode f k table store (recordsOf store))
   unfolding atNode refuse
-  at-node f k sound shape fit quiet =
+  at-node f k d =
       by-cond (LeavesSound n) (ltb k (groupSize (recordsOf store))) _ _
-      (λ e.
-      let low : k < n = omega (arith, ltb-true k (groupSize (recordsOf store)) e, G .size) in
-      carried k k (f (nodeAt table k)) low (sound (nodeAt table k) (stands k low)) (shape (nodeAt table k) (G .within .shaped k))
-      (fit (nodeAt table k) (G .within .fit k)) (λ z. absurd (false≢true (sym (quiet (nodeAt table k)) ∙ z))))
+      (λ e. carried k k (f (nodeAt table k)) (d (omega (arith, ltb-true k (groupSize (recordsOf store)) e, G .size))))
       (λ _. G)
 
   drops : (r : ℕ) (m : Reading) → messageIn (recordsOf store) r ≡ m → LeavesSound n (dropped m r table store (recordsOf store))
@@ -234,30 +295,29 @@ module _ (n : ℕ) (table : List Node) (store : List ℕ) (G : SoundGroup n tabl
         sound-stays-sound n (e .addressee) (Deliver e (rowsOf (recordIn (recordsOf store) r))) (nodeAt table (e .addressee))
         (stands (e .addressee) (addressed .addressee-below)) comes
 
-    delivers : LeavesSound n (delivered (Found e) r table store (recordsOf store))
-    unfolding delivered
-    delivers =
-        carried (e .addressee) (e .sender) (deliverStep (nodeAt table (e .addressee)) e (rowsOf (recordIn (recordsOf store) r)))
-        (addressed .addressee-below) delivered-sound
-        (deliver-shaped (nodeAt table (e .addressee)) e _ (G .within .shaped (e .addressee)))
-        (deliver-fits (nodeAt table (e .addressee)) e _ (G .within .fit (e .addressee)) (said .incarnation-fits) (said .items-fit) (said .message-fits))
-        (λ _. addressed .from-other)
+    pub deliver-decided : Decided n table (e .addressee) (e .sender) (deliverStep (nodeAt table (e .addressee)) e (rowsOf (recordIn (recordsOf store) r)))
+    deliver-decided =
+        record {
+          low = addressed .addressee-below;
+          sound = delivered-sound;
+          shaped = deliver-shaped (nodeAt table (e .addressee)) e _ (G .within .shaped (e .addressee));
+          fits = deliver-fits (nodeAt table (e .addressee)) e _ (G .within .fit (e .addressee)) (said .incarnation-fits) (said .items-fit) (said .message-fits);
+          other = λ _. addressed .from-other;
+        }
 
-  delivers-any : (r : ℕ) (m : Reading) → messageIn (recordsOf store) r ≡ m → LeavesSound n (delivered m r table store (recordsOf store))
+  delivers : (r : ℕ) (m : Reading) → messageIn (recordsOf store) r ≡ m → LeavesSound n (delivered m r table store (recordsOf store))
   unfolding delivered refuse
-  delivers-any r Fault h = G
-  delivers-any r (Found e) h = delivers r e h
+  delivers r Fault h = G
+  delivers r (Found e) h = carried (e .addressee) (e .sender) _ (deliver-decided r e h)
 
   on-sound : (e : Event) → TagFits e → LeavesSound n (onSound e table store (recordsOf store))
-  unfolding onSound TagFits SoundStaysSound MayCome decide
-  on-sound (event.Write k tag) t =
-      at-node (λ node. writeStep node tag) k (λ node s. sound-stays-sound n k (Write tag) node s tt)
-      (λ node s. write-shaped node tag s) (λ node f. write-fits node f tag t) (λ node. write-not node tag)
-  on-sound (event.Retry k) t = at-node retryStep k (λ node s. sound-stays-sound n k Retry node s tt) retry-shaped retry-fits retry-not
-  on-sound (event.Crash k) t = at-node crashStep k (λ node s. sound-stays-sound n k Crash node s tt) crash-shaped crash-fits crash-not
-  on-sound (event.Start k) t = at-node startStep k (λ node s. sound-stays-sound n k Start node s tt) start-shaped start-fits start-not
+  unfolding onSound TagFits
+  on-sound (event.Write k tag) t = at-node (λ node. writeStep node tag) k (λ low. write-decided k low tag t)
+  on-sound (event.Retry k) t = at-node retryStep k (λ low. retry-decided k low)
+  on-sound (event.Crash k) t = at-node crashStep k (λ low. crash-decided k low)
+  on-sound (event.Start k) t = at-node startStep k (λ low. start-decided k low)
   on-sound (event.Drop r) t = drops r (messageIn (recordsOf store) r) refl
-  on-sound (event.Deliver r) t = delivers-any r (messageIn (recordsOf store) r) refl
+  on-sound (event.Deliver r) t = delivers r (messageIn (recordsOf store) r) refl
 
   -- on a sound group it is the event alone that decides
   pub performed-is : (e : Event) → perform e table store ≡ onSound e table store (recordsOf store)

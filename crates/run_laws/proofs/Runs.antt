@@ -16,11 +16,10 @@ use Rattle.store.specs.Locality.{length-empty, empty-sized}
 use Rattle.store.specs.Records.{recordCount, recordsOf, joined}
 use Rattle.store.specs.Sound.{soundRecords, soundStore}
 use Rattle.chains.specs.Empty.{set-up-done}
-use Rattle.chains.specs.Sound.{store-right}
 use Rattle.protocol.specs.Answer.{refusalNumber}
 use Rattle.protocol.specs.Claim.{TagsFit}
 use Rattle.protocol.specs.Node.{blankNode, freshNode, writeEnded, countPeers}
-use Rattle.protocol.specs.Operation.{Result, setUp, perform, onRecords}
+use Rattle.protocol.specs.Operation.{Result, setUp, perform}
 use Rattle.protocol.specs.Phase.{isConfirming, isConfirmingStage}
 use Rattle.protocol.specs.Run.{Call, callOf, calls}
 use Rattle.protocol.specs.Sound.{everyFrom, rowUse, rowSound, attemptFits, phaseCounts, stageCounts, countedAsked, soundNode}
