@@ -1,1 +1,3 @@
+pub mod Point
+pub mod Drill
 pub mod Holding
