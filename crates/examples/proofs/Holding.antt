@@ -2,32 +2,24 @@
 -- from there every answer is computed: E to H in `Drill`, I and J of one node here.
 use Prim.Native.Nat.{ℕ}
 use native.Mathlib.Omega.{arith}
-use mathlib.Core.Path.{_≡_, refl, ap, _∙_}
+use mathlib.Core.Path.{_≡_, refl, ap}
 use mathlib.Core.Bool.{true, false}
 use mathlib.Core.List.{List, [], _∷_}
 use lib.ListN.{length, drop, length-drop}
 use borrow.Author.Tests.{eqb-true, eq-eqb, ne-eqb}
 use Rattle.item.specs.Maxima.{validSize}
-use Rattle.item.specs.Counter.{sameIncarnation, sameAttempt, indexBelow, incarnationAtLargest, nextIncarnation, earlier}
-use Rattle.item.specs.Item.{tagsAgree, ranksBelow, sameItem}
 use Rattle.store.specs.Records.{recordCount, rightLength, joined}
 use Rattle.store.specs.Change.{emptyRecords}
-use Rattle.protocol.specs.Answer.{refusalNumber, refused, ok}
-use Rattle.protocol.specs.Deliver.{onMessage, deliverStep}
-use Rattle.protocol.specs.Fetching.{noneCounted, withTable, hasConflict, stopped, writtenBack, nodeRecover, tableCounted, onTable}
-use Rattle.protocol.specs.Merge.{mergeRow, mergeRows, lowestMarked}
-use Rattle.protocol.specs.Node.{half, rowOf, ownItem, peerOf, countPeers, blankNode, crashed, started, storingBegun, withRow, withCounted, writeEnded, withRows, freshNode}
+use Rattle.protocol.specs.Answer.{refusalNumber}
 use Rattle.protocol.specs.Operation.{setUp, refuse}
-use Rattle.protocol.specs.Phase.{isDown, isFetching, isUp}
 use Rattle.protocol.specs.Run.{calls}
-use Rattle.protocol.specs.Storing.{storeVerdict, replyStore, onStore, isCounted}
 use Rattle.protocol.specs.Table.{freshTable}
-use Rattle.protocol.specs.Write.{sendStore, sendFetch, crashStep, startStep}
 use Rattle.protocol.specs.declared.Event.{Event}
 use Rattle.protocol.specs.declared.Node.{Node}
 use Rattle.examples.specs.Said as said
 use Rattle.examples.specs.Said.{Said, said, drill, decisions}
 use Rattle.examples.specs.Lettered.{lettered, AllHold, LetteredExamples}
+use Rattle.examples.proofs.Opened.{answering, storing, starting, merging}
 use Rattle.examples.proofs.Point.{answers}
 use Rattle.examples.proofs.Drill.{e-holds, f-holds, g-holds, h-holds}
 
@@ -53,41 +45,15 @@ one-short store right =
     ne-eqb (length (drop 1 store)) _ (λ e. absurd (omega (arith, eqb-true (length store) _ right, length-drop 1 store)))
 
 pub lettered-examples : LetteredExamples
-unfolding LetteredExamples lettered AllHold validSize calls decisions said refusalNumber ok refused deliverStep onMessage onStore isUp storeVerdict ranksBelow indexBelow earlier replyStore withRow freshNode blankNode writeEnded rowOf sameIncarnation sameAttempt sameItem tagsAgree crashStep startStep isDown isFetching incarnationAtLargest nextIncarnation crashed started sendFetch onTable isCounted noneCounted withTable withRows withCounted mergeRows mergeRow hasConflict lowestMarked stopped nodeRecover tableCounted countPeers half peerOf writtenBack storingBegun ownItem sendStore
-lettered-examples nodes store many right = (
-  accepted 3 (nodes 3) store (many 3) refl right [] refl,
-  (
-    not-valid 4 (nodes 4) store (many 4) refl,
-    (
-      accepted 15 (nodes 15) store (many 15) refl right [] refl,
-      (
-        not-valid 17 (nodes 17) store (many 17) refl,
-        (
-          short 3 (nodes 3) (drop 1 store) (many 3) refl (one-short store right),
-          (
-            accepted 3 (nodes 3) store (many 3) refl right _ e-holds,
-            (
-              accepted 3 (nodes 3) store (many 3) refl right _ f-holds,
-              (
-                accepted 3 (nodes 3) store (many 3) refl right _ g-holds,
-                (
-                  accepted 3 (nodes 3) store (many 3) refl right _ h-holds,
-                  (
-                    refl,
-                    (
-                      refl,
-                      (
-                        refl,
-                        tt,
-                      ),
-                    ),
-                  ),
-                ),
-              ),
-            ),
-          ),
-        ),
-      ),
-    ),
-  ),
-)
+unfolding LetteredExamples lettered AllHold validSize calls decisions answering storing starting merging
+lettered-examples nodes store many right =
+    let a = accepted 3 (nodes 3) store (many 3) refl right [] refl in
+    let b = not-valid 4 (nodes 4) store (many 4) refl in
+    let c = accepted 15 (nodes 15) store (many 15) refl right [] refl in
+    let c′ = not-valid 17 (nodes 17) store (many 17) refl in
+    let d = short 3 (nodes 3) (drop 1 store) (many 3) refl (one-short store right) in
+    let e = accepted 3 (nodes 3) store (many 3) refl right _ e-holds in
+    let f = accepted 3 (nodes 3) store (many 3) refl right _ f-holds in
+    let g = accepted 3 (nodes 3) store (many 3) refl right _ g-holds in
+    let h = accepted 3 (nodes 3) store (many 3) refl right _ h-holds in
+    (a, (b, (c, (c′, (d, (e, (f, (g, (h, (refl, (refl, (refl, tt))))))))))))

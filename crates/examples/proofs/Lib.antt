@@ -1,3 +1,4 @@
+pub mod Opened
 pub mod Point
 pub mod Drill
 pub mod Holding

@@ -1,24 +1,24 @@
 -- A point of a drill: a sound table and a sound store, as its records. What a call does there is said of the records, so
 -- that an example computes the soundness of each point once and cuts no bytes.
-use Prim.Native.Nat.{ℕ, suc}
-use mathlib.Core.Path.{_≡_, refl, ap, _∙_}
-use mathlib.Core.Bool.{true, false, _&&_}
-use mathlib.Core.List.{List, [], _∷_, map}
+use Prim.Native.Nat.{ℕ}
+use mathlib.Core.Path.{_≡_, ap, _∙_}
+use mathlib.Core.Bool.{true, false}
+use mathlib.Core.List.{List, _∷_, map}
 use lib.Dec.{ltb}
 use lib.ListN.{length, set}
 use Rattle.item.specs.declared.Tag.{Tag}
 use Rattle.message.specs.declared.Envelope.{Envelope}
 use Rattle.record.specs.Layout.{recordSize, rowsOf}
 use Rattle.record.specs.declared.Reading.{Reading}
-use Rattle.record.specs.declared.Reading.the-variants.{Found, Fault}
-use Rattle.store.specs.Records.{recordCount, rightLength, recordsOf, joined, recordIn}
+use Rattle.record.specs.declared.Reading.the-variants.{Found}
+use Rattle.store.specs.Records.{recordCount, joined, recordIn}
 use Rattle.store.specs.Head.{groupSize}
 use Rattle.store.specs.Sound.{soundRecords, freeCount, messageIn}
 use Rattle.store.specs.Change.{putEach, countOutgoing}
 use Rattle.store.specs.Joined.{Sized, records-joined, joined-right}
 use Rattle.store.specs.Locality.{put-each-local}
 use Rattle.protocol.specs.Deliver.{deliverStep}
-use Rattle.protocol.specs.Operation.{Result, perform, refuse, isRefused, rowItems, sentBy, carriedOut, atNode, delivered, onSound, onRecords}
+use Rattle.protocol.specs.Operation.{Result, perform, isRefused, rowItems, sentBy, carriedOut, atNode, delivered, onSound, onRecords}
 use Rattle.protocol.specs.Outgoing.{outgoing}
 use Rattle.protocol.specs.Run.{callOf, calls}
 use Rattle.protocol.specs.Table.{nodeAt, soundTable}
@@ -26,7 +26,6 @@ use Rattle.protocol.specs.Write.{writeStep}
 use Rattle.protocol.specs.declared.Event.{Event}
 use Rattle.protocol.specs.declared.Event.the-variants as event
 use Rattle.protocol.specs.declared.Node.{Node}
-use Rattle.protocol.specs.declared.Refusal.the-variants.{NoMessage}
 use Rattle.protocol.specs.declared.Step.{Step}
 use Rattle.examples.specs.Said.{Said, said}
 

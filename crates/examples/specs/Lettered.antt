@@ -7,7 +7,6 @@ use mathlib.Core.List.{List, [], _∷_}
 use lib.ListN.{length, drop}
 use Rattle.item.specs.Item.{zeroItem}
 use Rattle.item.specs.declared.Item.{Item}
-use Rattle.message.specs.declared.Envelope.{Envelope}
 use Rattle.message.specs.declared.Message.{Message}
 use Rattle.message.specs.declared.Message.the-variants.{Store, Table}
 use Rattle.store.specs.Records.{rightLength}
