@@ -1,0 +1,4 @@
+pub mod Opened
+pub mod Point
+pub mod Drill
+pub mod Holding
