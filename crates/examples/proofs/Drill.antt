@@ -1,7 +1,7 @@
 -- Examples E to H: the drill of a group of three up to its line 4. Three steps are carried out, a write and two deliveries;
 -- at each of the four points between them soundness and the free records are computed, once.
 use Prim.Native.Nat.{ℕ}
-use mathlib.Core.Path.{_≡_, refl, ap, _∙_}
+use mathlib.Core.Path.{_≡_, refl, ap}
 use mathlib.Core.Bool.{true, false}
 use mathlib.Core.List.{List, [], _∷_}
 use lib.Dec.{ltb}
@@ -20,19 +20,17 @@ use Rattle.store.specs.Locality.{length-empty, empty-sized}
 use Rattle.chains.specs.Empty.{EmptyDone, set-up-done}
 use Rattle.protocol.specs.Deliver.{deliverStep}
 use Rattle.protocol.specs.Node.{freshNode}
-use Rattle.protocol.specs.Operation.{Result, perform, onSound}
+use Rattle.protocol.specs.Operation.{perform}
 use Rattle.protocol.specs.Outgoing.{outgoing}
-use Rattle.protocol.specs.Run.{calls}
 use Rattle.protocol.specs.Table.{freshTable}
 use Rattle.protocol.specs.Write.{writeStep}
-use Rattle.protocol.specs.declared.Event.{Event}
 use Rattle.protocol.specs.declared.Event.the-variants as event
 use Rattle.protocol.specs.declared.Node.{Node}
 use Rattle.protocol.specs.declared.Step.{Step}
 use Rattle.examples.specs.Said as said
-use Rattle.examples.specs.Said.{Said, said}
+use Rattle.examples.specs.Said.{answers}
 use Rattle.examples.proofs.Opened.{writing, storing, counting, starting, answering, table-soundness, links, reading, counting-free, store-soundness, sending, putting, refusing}
-use Rattle.examples.proofs.Point.{Point, answers, then, sentInto, moved, next, on-sound, writes, takes}
+use Rattle.examples.proofs.Point.{Point, answered-ok, sentInto, moved, next, last, acts, takes}
 
 abbrev pub tag : Tag
 tag = record { 0 = 65 }
@@ -57,7 +55,7 @@ empty : EmptyDone recordCount 3
 unfolding validSize
 empty = set-up-done 3 refl
 
-point₀ : Point 3 table₀ records₀
+pub point₀ : Point 3 table₀ records₀
 unfolding table-soundness
 point₀ =
     record {
@@ -93,7 +91,7 @@ point₁ = next point₀ 0 0 step₁ sound₁ refl
 
 line-2 : perform (event.Write 0 tag) table₀ (joined records₀) ≡ moved table₀ records₀ 0 0 step₁
 unfolding step₁ writing refusing
-line-2 = writes point₀ step₁ refl 0 tag refl refl room₁
+line-2 = acts point₀ step₁ refl (event.Write 0 tag) (λ node. writeStep node tag) 0 refl refl refl room₁
 
 -- ---- `d 1`: record 1 is the Store to node 1
 
@@ -159,11 +157,6 @@ line-4 = takes point₂ step₃ refl 3 _ message₂ refl room₃
 
 -- ---- what is refused
 
--- the call's answer, and nothing after it
-last : {n : ℕ} {table : List Node} {rs : List (List ℕ)} → Point n table rs → (e : Event) → answers table (joined rs) (e ∷ []) ≡ said (onSound e table (joined rs) rs .answer) ∷ []
-unfolding calls
-last p e = then e _ _ _ (on-sound p e) []
-
 pub e-holds : answers table₀ (joined records₀) (event.Deliver 1 ∷ []) ≡ said.gives 8 ∷ []
 unfolding refusing answering reading
 e-holds = last point₀ (event.Deliver 1)
@@ -179,11 +172,6 @@ f-last = last point₁ (event.Write 0 tag)
 h-last : answers table₃ (joined records₃) (event.Deliver 3 ∷ []) ≡ said.gives 9 ∷ []
 unfolding table₃ records₃ table₂ records₂ table₁ records₁ step₃ counting step₂ storing step₁ writing putting reading refusing answering
 h-last = last point₃ (event.Deliver 3)
-
--- an event that is answered "ok", and the answers after it
-answered-ok : (e : Event) (table : List Node) (store : List ℕ) (r : Result) → perform e table store ≡ r → said (r .answer) ≡ said.ok
-    → (es : List Event) {l : List Said} → answers (r .table) (r .store) es ≡ l → answers table store (e ∷ es) ≡ said.ok ∷ l
-answered-ok e table store r p a es q = then e table store r p es ∙ (λ i. a i ∷ q i)
 
 pub f-holds : answers table₀ (joined records₀) (event.Write 0 tag ∷ event.Write 0 tag ∷ []) ≡ said.ok ∷ said.gives 5 ∷ []
 unfolding table₁ records₁ step₁ writing answering

@@ -1,5 +1,5 @@
 -- The lettered examples hold. Set-up looks at lengths alone, so that what it leaves is the same for all tables and stores;
--- from there every answer is computed: E to H in `Drill`, I and J of one node here.
+-- from there every answer is computed, E to H in `Drill`, I and J in `Told`.
 use Prim.Native.Nat.{ℕ}
 use native.Mathlib.Omega.{arith}
 use mathlib.Core.Path.{_≡_, refl, ap}
@@ -17,11 +17,10 @@ use Rattle.protocol.specs.Table.{freshTable}
 use Rattle.protocol.specs.declared.Event.{Event}
 use Rattle.protocol.specs.declared.Node.{Node}
 use Rattle.examples.specs.Said as said
-use Rattle.examples.specs.Said.{Said, said, drill, decisions}
+use Rattle.examples.specs.Said.{Said, said, answers, drill}
 use Rattle.examples.specs.Lettered.{lettered, AllHold, LetteredExamples}
-use Rattle.examples.proofs.Opened.{answering, storing, starting, merging}
-use Rattle.examples.proofs.Point.{answers}
 use Rattle.examples.proofs.Drill.{e-holds, f-holds, g-holds, h-holds}
+use Rattle.examples.proofs.Told.{i-holds, j-stops, j-goes-on}
 
 module _ (n : ℕ) (table : List Node) (store : List ℕ) (many : length table ≡ n) where
   -- an accepted set-up, and the answers after it
@@ -45,7 +44,7 @@ one-short store right =
     ne-eqb (length (drop 1 store)) _ (λ e. absurd (omega (arith, eqb-true (length store) _ right, length-drop 1 store)))
 
 pub lettered-examples : LetteredExamples
-unfolding LetteredExamples lettered AllHold validSize calls decisions answering storing starting merging
+unfolding LetteredExamples lettered AllHold validSize calls
 lettered-examples nodes store many right =
     let a = accepted 3 (nodes 3) store (many 3) refl right [] refl in
     let b = not-valid 4 (nodes 4) store (many 4) refl in
@@ -56,4 +55,4 @@ lettered-examples nodes store many right =
     let f = accepted 3 (nodes 3) store (many 3) refl right _ f-holds in
     let g = accepted 3 (nodes 3) store (many 3) refl right _ g-holds in
     let h = accepted 3 (nodes 3) store (many 3) refl right _ h-holds in
-    (a, (b, (c, (c′, (d, (e, (f, (g, (h, (refl, (refl, (refl, tt))))))))))))
+    (a, (b, (c, (c′, (d, (e, (f, (g, (h, (i-holds, (j-stops, (j-goes-on, tt))))))))))))

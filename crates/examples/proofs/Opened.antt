@@ -7,7 +7,7 @@ use Rattle.endian.specs.Part.{whole, part, withPart}
 use Rattle.endian.specs.Number.{value, bytes, numberAt, withNumber}
 use Rattle.endian.specs.Zero.{zeros, allZero}
 use Rattle.kinds.specs.Kind.{kindOf, otherOf, attemptOf, itemOf, fieldsOf, rowsHeld, noWrite, messageOf}
-use Rattle.layout.specs.Layout.{itemBytes, addressByte, fieldBytes, rowsBytes, padded, itemIn, fieldsIn, nextOf, heldRows}
+use Rattle.layout.specs.Layout.{itemBytes, addressByte, fieldBytes, rowsBytes, padded, itemIn, fieldsIn, itemsIn, rowsOf, nextOf, heldRows}
 use Rattle.record.specs.Record.{recordBytes, zeroAfterRows, readAs, readRecord, withNext, noRecord, zeroAfterNext}
 use Rattle.store.specs.Records.{recordIn}
 use Rattle.store.specs.Head.{inboxAt, firstFree, groupSize, firstOf, headZero, withFirstFree, withFirstOf}
@@ -19,7 +19,7 @@ use Rattle.protocol.specs.Deliver.{onMessage, deliverStep}
 use Rattle.protocol.specs.Fetching.{noneCounted, withTable, hasConflict, stopped, writtenBack, nodeRecover, tableCounted, onTable}
 use Rattle.protocol.specs.Merge.{mergeRow, mergeRows, lowestMarked}
 use Rattle.protocol.specs.Node.{half, rowOf, ownItem, peerOf, countPeers, blankNode, crashed, started, storingBegun, withRow, withCounted, confirmingBegun, writeEnded, withRows, freshNode}
-use Rattle.protocol.specs.Operation.{refuse, isRefused, rowItems, carriedOut, atNode, delivered, onSound}
+use Rattle.protocol.specs.Operation.{refuse, isRefused, rowItems, sentBy, carriedOut, atNode, delivered, onSound}
 use Rattle.protocol.specs.Outgoing.{goesTo, messageTo, outgoingTo, outgoingFrom, outgoing}
 use Rattle.protocol.specs.Phase.{isDown, isFetching, isUp, isIdleStage, isStoringStage, isConfirmingStage, isUpIdle, isStoring, isConfirming, atStage}
 use Rattle.protocol.specs.Sound.{everyFrom, rowUse, rowFits, rowSound, peerSound, stageCounts, phaseCounts, attemptFits, amongAsked, countedAsked, rowsSound, peersSound, soundNode}
@@ -74,6 +74,11 @@ unfoldable pub reading : Unit {0}
 unfolding links messageIn readRecord readAs zeroAfterRows allZero fieldsIn itemIn messageOf noWrite rowsHeld sameIncarnation sameAttempt sameItem tagsAgree
 reading = tt
 
+-- the rows of a Table
+unfoldable pub rows-read : Unit {0}
+unfolding rowsOf itemsIn itemIn numberAt part whole value
+rows-read = tt
+
 unfoldable pub counting-free : Unit {0}
 unfolding links freeCount walkFree walk zeroAfterNext allZero headPassed
 counting-free = tt
@@ -93,5 +98,5 @@ putting = tt
 
 -- a call that is refused at a node or for want of a message
 unfoldable pub refusing : Unit {0}
-unfolding onSound atNode delivered carriedOut isRefused refuse nodeAt freshTable freshNodes
+unfolding onSound atNode delivered carriedOut sentBy isRefused refuse nodeAt freshTable freshNodes
 refusing = tt

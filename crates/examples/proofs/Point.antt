@@ -3,10 +3,9 @@
 use Prim.Native.Nat.{ℕ}
 use mathlib.Core.Path.{_≡_, ap, _∙_}
 use mathlib.Core.Bool.{true, false}
-use mathlib.Core.List.{List, _∷_, map}
+use mathlib.Core.List.{List, [], _∷_}
 use lib.Dec.{ltb}
 use lib.ListN.{length, set}
-use Rattle.item.specs.declared.Tag.{Tag}
 use Rattle.message.specs.declared.Envelope.{Envelope}
 use Rattle.record.specs.Layout.{recordSize, rowsOf}
 use Rattle.record.specs.declared.Reading.{Reading}
@@ -22,19 +21,16 @@ use Rattle.protocol.specs.Operation.{Result, perform, isRefused, rowItems, sent
 use Rattle.protocol.specs.Outgoing.{outgoing}
 use Rattle.protocol.specs.Run.{callOf, calls}
 use Rattle.protocol.specs.Table.{nodeAt, soundTable}
-use Rattle.protocol.specs.Write.{writeStep}
 use Rattle.protocol.specs.declared.Event.{Event}
 use Rattle.protocol.specs.declared.Event.the-variants as event
 use Rattle.protocol.specs.declared.Node.{Node}
 use Rattle.protocol.specs.declared.Step.{Step}
-use Rattle.examples.specs.Said.{Said, said}
+use Rattle.examples.specs.Said as said
+use Rattle.examples.specs.Said.{Said, said, answers}
 
 -- ---- the answers to some events
 
-abbrev pub answers : List Node → List ℕ → List Event → List Said
-answers table store events = map (λ call. said (call .answer)) (calls table store events)
-
--- the first of them, where what it gives is known
+-- the first of them, where what it does is known
 pub then : (e : Event) (table : List Node) (store : List ℕ) (r : Result) → perform e table store ≡ r → (es : List Event)
     → answers table store (e ∷ es) ≡ said (r .answer) ∷ answers (r .table) (r .store) es
 unfolding calls callOf
@@ -88,12 +84,12 @@ module _ {n : ℕ} {table : List Node} {rs : List (List ℕ)} (p : Point n table
     unfolding carriedOut sentBy
     carried k back free = rw (accepts, free)
 
-    -- a write that begins
-    pub writes : (k : ℕ) (tag : Tag) → ltb k n ≡ true → writeStep (nodeAt table k) tag ≡ step → Room k
-        → perform (event.Write k tag) table (joined rs) ≡ moved table rs k k step
-    unfolding onSound atNode
-    writes k tag low d free =
-        on-sound (event.Write k tag) ∙ rw (p .size, low) (ap (carriedOut table (joined rs) rs k k) d ∙ carried k k free)
+    -- an event at node k that is carried out
+    pub acts : (e : Event) (decide : Node → Step) (k : ℕ) → onSound e table (joined rs) rs ≡ atNode decide k table (joined rs) rs
+        → ltb k n ≡ true → decide (nodeAt table k) ≡ step → Room k → perform e table (joined rs) ≡ moved table rs k k step
+    unfolding atNode
+    acts e decide k is low d free =
+        on-sound e ∙ is ∙ rw (p .size, low) (ap (carriedOut table (joined rs) rs k k) d ∙ carried k k free)
 
     -- a message that is taken
     pub takes : (r : ℕ) (e : Envelope) → messageIn rs r ≡ Found e
@@ -104,3 +100,13 @@ module _ {n : ℕ} {table : List Node} {rs : List (List ℕ)} (p : Point n table
         on-sound (event.Deliver r) ∙ ap (λ (q : Reading). delivered q r table (joined rs) rs) m
         ∙ ap (carriedOut table (joined rs) rs (e .addressee) (e .sender)) d
         ∙ carried (e .addressee) (e .sender) free
+
+  -- the call's answer, and nothing after it
+  pub last : (e : Event) → answers table (joined rs) (e ∷ []) ≡ said (onSound e table (joined rs) rs .answer) ∷ []
+  unfolding calls
+  last e = then e table (joined rs) _ (on-sound e) []
+
+-- an event that is answered "ok", and the answers after it
+pub answered-ok : (e : Event) (table : List Node) (store : List ℕ) (r : Result) → perform e table store ≡ r → said (r .answer) ≡ said.ok
+    → (es : List Event) {l : List Said} → answers (r .table) (r .store) es ≡ l → answers table store (e ∷ es) ≡ said.ok ∷ l
+answered-ok e table store r p a es q = then e table store r p es ∙ (λ i. a i ∷ q i)

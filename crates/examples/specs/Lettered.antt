@@ -5,19 +5,17 @@ use mathlib.Core.Path.{_≡_}
 use mathlib.Core.Bool.{true}
 use mathlib.Core.List.{List, [], _∷_}
 use lib.ListN.{length, drop}
-use Rattle.item.specs.Item.{zeroItem}
 use Rattle.item.specs.declared.Item.{Item}
+use Rattle.message.specs.declared.Envelope.{Envelope}
 use Rattle.message.specs.declared.Message.{Message}
 use Rattle.message.specs.declared.Message.the-variants.{Store, Table}
-use Rattle.store.specs.Records.{rightLength}
-use Rattle.protocol.specs.Deliver.{deliverStep}
-use Rattle.protocol.specs.Node.{freshNode}
-use Rattle.protocol.specs.Write.{crashStep, startStep}
+use Rattle.store.specs.Records.{recordCount, rightLength, joined}
+use Rattle.store.specs.Change.{putIn, emptyRecords}
+use Rattle.protocol.specs.Table.{freshTable}
 use Rattle.protocol.specs.declared.Event.{Event}
 use Rattle.protocol.specs.declared.Event.the-variants as event
 use Rattle.protocol.specs.declared.Node.{Node}
-use Rattle.protocol.specs.declared.Step.{Step}
-use Rattle.examples.specs.Said.{Said, ok, stops-at, gives, drill, decisions}
+use Rattle.examples.specs.Said.{Said, ok, stops-at, gives, answers, drill}
 
 pub data Letter : Type 0 where
   A : Letter
@@ -46,6 +44,10 @@ example letter given stated = record { letter = letter; given = given; stated = 
 abbrev w : ℕ → ℕ → Event
 w node tag = event.Write node (record { 0 = tag })
 
+-- `c node`
+abbrev c : ℕ → Event
+c node = event.Crash node
+
 -- `s node`
 abbrev s : ℕ → Event
 s node = event.Start node
@@ -54,22 +56,39 @@ s node = event.Start node
 abbrev d : ℕ → Event
 d record-number = event.Deliver record-number
 
--- ---- messages of a group of three to its node 0, in the sender's first incarnation
+-- ---- messages that no drill of a few lines brings about
 
-abbrev item : ℕ → ℕ → Item
+abbrev pub item : ℕ → ℕ → Item
 item index tag = record { index = record { 0 = index }; tag = record { 0 = tag } }
 
-abbrev toNode0 : ℕ → Message → List Item → Node → Step
-toNode0 sender message items node =
-    deliverStep node (record { sender = sender; addressee = 0; incarnation = record { 0 = 1 }; message = message }) items
+-- a message to node 0 of the sender's first incarnation, and its rows
+pub record Sent : Type 0 where
+  pub envelope : Envelope
+  pub rows : List Item
+
+abbrev sent : ℕ → Message → List Item → Sent
+sent sender message rows =
+    record {
+      envelope = record { sender = sender; addressee = 0; incarnation = record { 0 = 1 }; message = message };
+      rows = rows;
+    }
 
 -- a Store under attempt 1
-abbrev store : ℕ → Item → Node → Step
-store sender stored = toNode0 sender (Store (record { 0 = 1 }) stored) []
+abbrev pub store : ℕ → Item → Sent
+store sender stored = sent sender (Store (record { 0 = 1 }) stored) []
 
--- a Table with this item for node 0, sent to node 0 in its second incarnation
-abbrev table : ℕ → Item → Node → Step
-table sender top = toNode0 sender (Table (record { 0 = 2 })) (top ∷ zeroItem ∷ zeroItem ∷ [])
+-- a Table that has this item for node 0, asked for in node 0's second incarnation
+abbrev pub table : ℕ → Item → Sent
+table sender top = sent sender (Table (record { 0 = 2 })) (top ∷ [])
+
+-- the records after `n 3` where two messages have been put: they are records 1 and 2
+unfoldable pub holding : Sent → Sent → List (List ℕ)
+holding first second =
+    putIn (putIn (emptyRecords recordCount 3) (first .envelope) (first .rows)) (second .envelope) (second .rows)
+
+-- what is said to some events in a group of three, Up and Idle, whose store holds two messages
+unfoldable pub told : Sent → Sent → List Event → List Said
+told first second events = answers (freshTable 3) (joined (holding first second)) events
 
 -- ---- the list, for tables of n nodes, one for each n, and a store
 
@@ -92,14 +111,12 @@ lettered nodes bytes =
     example G (drill 3 (nodes 3) bytes (s 0 ∷ [])) (ok ∷ gives 5 ∷ []) ∷
     -- "H: after the drill's line 4, d 3 gives 9." The lines up to it: n 3 / w 0 65 / d 1 / d 3.
     example H (drill 3 (nodes 3) bytes (w 0 65 ∷ d 1 ∷ d 3 ∷ d 3 ∷ [])) (ok ∷ ok ∷ ok ∷ ok ∷ gives 9 ∷ []) ∷
-    -- "I: Store of index 1, tag 65, at a row of index 1, tag 66, gives 13." A Store of tag 66 has filled the row.
-    example I (decisions (freshNode 0 3) (store 1 (item 1 66) ∷ store 1 (item 1 65) ∷ [])) (ok ∷ gives 13 ∷ []) ∷
-    -- "J: tables with items (7, 1) and (7, 2) at the top stop; (7, 1) and (6, 2) do not." Node 0 crashes, starts and is
-    -- told two tables, which is f+1 of three nodes.
-    example J (decisions (freshNode 0 3) (crashStep ∷ startStep ∷ table 1 (item 7 1) ∷ table 2 (item 7 2) ∷ []))
+    -- "I: Store of index 1, tag 65, at a row of index 1, tag 66, gives 13." The first Store fills the row.
+    example I (told (store 1 (item 1 66)) (store 1 (item 1 65)) (d 1 ∷ d 2 ∷ [])) (ok ∷ gives 13 ∷ []) ∷
+    -- "J: tables with items (7, 1) and (7, 2) at the top stop; (7, 1) and (6, 2) do not." Two tables are f+1 of three nodes.
+    example J (told (table 1 (item 7 1)) (table 2 (item 7 2)) (c 0 ∷ s 0 ∷ d 1 ∷ d 2 ∷ []))
     (ok ∷ ok ∷ ok ∷ stops-at 0 ∷ []) ∷
-    example J (decisions (freshNode 0 3) (crashStep ∷ startStep ∷ table 1 (item 7 1) ∷ table 2 (item 6 2) ∷ []))
-    (ok ∷ ok ∷ ok ∷ ok ∷ []) ∷
+    example J (told (table 1 (item 7 1)) (table 2 (item 6 2)) (c 0 ∷ s 0 ∷ d 1 ∷ d 2 ∷ [])) (ok ∷ ok ∷ ok ∷ ok ∷ []) ∷
     []
 
 -- each of the list
