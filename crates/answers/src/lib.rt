@@ -23,7 +23,7 @@ pub enum Reply {
 }
 
 // The bytes of the longest output line.
-const LINE_ROOM: usize = 72;
+pub const LINE_ROOM: usize = 72;
 
 // Writes the output line at the place, and gives the place after it. Where fewer bytes are left than the longest line
 // takes, nothing is written and the place comes back.

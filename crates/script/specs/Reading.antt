@@ -157,6 +157,11 @@ pub gathered : (bs : List ℕ) → pendingLine (pushedAll noneYet bs) ≡ lineOf
 unfolding pendingLine Holds noneYet
 gathered bs = rw (holds-all noneYet [] bs (refl, refl, refl) .2) (line-kept bs)
 
+-- and as many are kept as came, up to 64
+pub gathered-length : (bs : List ℕ) → pushedAll noneYet bs .len ≡ length (take mostBytes bs)
+unfolding Holds noneYet
+gathered-length bs = holds-all noneYet [] bs (refl, refl, refl) .1
+
 -- more bytes than can be kept: unread
 pub pending-full : (p : Pending) → length (p .bytes) ≡ mostBytes → mostBytes < p .len → pendingLine p ≡ Unread
 unfolding pendingLine

@@ -1,0 +1,53 @@
+// The drill (document 01, Drill program): reads a script from standard input, and prints the answer of each line to
+// standard output. What the lines mean and what they print is decided in crates `session` and `feeding`; here are the blocks.
+use feeding::Progress;
+use feeding::feed;
+use feeding::finish;
+use libc::STDIN_FILENO;
+use libc::STDOUT_FILENO;
+
+// Takes a piece of the script and prints its answers, in as many turns as `out` has room for.
+fn take_piece(piece: &[u8], start: Progress, store: &mut [u8], out: &mut [u8]) -> Progress {
+    let mut progress = start;
+    let mut from = 0;
+    while from < piece.len() {
+        let fed = feed(&piece[from..], progress, store, out);
+        let at = fed.at;
+        let next = fed.next;
+        let after = fed.progress;
+        progress = after;
+        io::write_all(STDOUT_FILENO, &out[..at]);
+        if next == 0 {
+            break;
+        }
+        from += next;
+    }
+    progress
+}
+
+// Reads the script block by block to its end. A proved loop has to end, and nothing says that the input does, so the
+// blocks are counted down from the largest number there is.
+fn run(block: &mut [u8], store: &mut [u8], out: &mut [u8]) -> Progress {
+    let mut progress = Progress::start();
+    let mut left = u64::MAX;
+    while 0 < left {
+        let got = libc::read(STDIN_FILENO, block);
+        let n = io::count(got, block);
+        if n == 0 {
+            break;
+        }
+        let next = take_piece(&block[..n], progress, store, out);
+        progress = next;
+        left -= 1;
+    }
+    progress
+}
+
+fn main() {
+    let mut store = [0u8; store::LENGTH];
+    let mut block = io::large_buffer();
+    let mut out = io::large_buffer();
+    let last = run(&mut block, &mut store, &mut out);
+    let at = finish(last, &mut out);
+    io::write_all(STDOUT_FILENO, &out[..at]);
+}

@@ -1,0 +1,41 @@
+-- The same as the program does it: the input comes in pieces, at most 64 bytes of a line are kept, and what is printed
+-- goes out in pieces.
+use Prim.Native.Nat.{ℕ, suc, _+_, _<_, _≤_, _^_}
+use mathlib.Core.Path.{_≡_}
+use mathlib.Core.Logic.{_⊎_}
+use mathlib.Core.Bool.{cond}
+use mathlib.Core.List.{List, [], _∷_, _++_}
+use lib.Dec.{eqb}
+use lib.ListN.{length, take, drop, replicate}
+use Rattle.answers.specs.Output.{outputLine, lineRoom}
+use Rattle.decimal.specs.Bytes.{lineFeed}
+use Rattle.script.specs.Pending.{noneYet, pushed, pendingLine}
+use Rattle.script.specs.declared.Pending.{Pending}
+use Rattle.session.specs.Turn.{Done, noGroup, lineDone}
+use Rattle.feeding.specs.Drill.{lastOutput}
+use Rattle.session.specs.declared.Drill.{Drill}
+use Rattle.feeding.specs.declared.Progress.{Progress}
+
+-- where the drill begins
+unfoldable pub atStart : Progress
+atStart = record { count = 0; pending = noneYet; drill = noGroup }
+
+-- what is printed for the bytes still to come
+unfoldable pub pendingOutput : ℕ → Pending → Drill → List ℕ → List ℕ → List ℕ
+pendingOutput count pending drill store [] = lastOutput count (pending .len)
+pendingOutput count pending drill store (b ∷ bs) =
+    cond (eqb b lineFeed)
+    (let done : Done = lineDone (pendingLine pending) drill store in
+    outputLine (suc count) (done .turn .reply) ++ pendingOutput (suc count) noneYet (done .turn .drill) (done .store) bs)
+    (pendingOutput count (pushed pending b) drill store bs)
+
+unfoldable pub progressOutput : Progress → List ℕ → List ℕ → List ℕ
+progressOutput p store bs = pendingOutput (p .count) (p .pending) (p .drill) store bs
+
+-- a piece of the input was taken up to `next`, and what it prints stands in the first `at` bytes of `out`: whatever comes
+-- after the piece, the rest of the output is what is printed from here on. All of the piece was taken, unless there was
+-- no room for another line or no count for it.
+pub record Taken (piece : List ℕ) (before : Progress) (storeBefore : List ℕ) (next at : ℕ) (out : List ℕ) (after : Progress) (store : List ℕ) : Type 0 where
+  pub output : (rest : List ℕ) → progressOutput before storeBefore (piece ++ rest) ≡ take at out ++ progressOutput after store (drop next piece ++ rest)
+  pub within : (next ≤ length piece) × (at ≤ length out)
+  pub ended : (next ≡ length piece) ⊎ ((length out < at + lineRoom) ⊎ (suc (after .count) ≡ 2 ^ 64))

@@ -1,0 +1,3 @@
+pub mod Drill
+pub mod Feeding
+pub mod FeedingLaws

@@ -1,0 +1,3 @@
+pub mod First
+pub mod Local
+pub mod Walk

@@ -1,0 +1,36 @@
+-- `lending::set_up` calls set_up_first with as many nodes as there are for n.
+use mathlib.Core.Path.{_≡_, sym, ap, _∙_}
+use mathlib.Core.List.{List, map, _++_}
+use native.Mathlib.Omega.{arith}
+use lib.ListN.{length, length-map, take, drop}
+use borrow.Author.Needs.{needs}
+use Rattle.protocol.specs.Operation.{setUp}
+use Rattle.protocol.specs.declared.Node.{Node}
+use Rattle.lending.specs.Lending.{outcomeOf}
+use Rattle.lending.proofs.First.{first-few, first-take, first-drop, length-held}
+use Rattle.lending.proofs.set_up.Statement.{statement}
+use Rattle.lending.proofs.set_up.Tie as tie
+
+first-nodes-requires : tie.Need-first-nodes-requires
+first-nodes-requires c κs = search needs
+
+set-up-first-requires : tie.Need-set-up-first-requires
+set-up-first-requires c κs = rw (c .before .first-nodes .ensures) (first-few (c .before .before .before .args .n))
+
+same-length : tie.Need-same-length
+same-length c = search needs
+
+returns : tie.Need-returns
+unfolding outcomeOf
+returns c =
+    let b = c .before .before .before .before in
+    let a = b .before .before .args in
+    let l : length (a .nodes) ≡ 15 = search length-held in
+    let f = b .first-nodes .ensures in
+    let t : take (b .first-nodes .result) (a .nodes) ≡ take (a .n) (a .nodes) = rw f (first-take (a .n) (a .nodes) l) in
+    let d : drop (b .first-nodes .result) (a .nodes) ≡ drop (a .n) (a .nodes) = rw f (first-drop (a .n) (a .nodes) l) in
+    let e = c .before .before .set-up-first .ensures in
+    (e .0 ∙ rw (t, d), e .1 ∙ rw t)
+
+pub set-up-spec : {M : Type 1} → statement M
+set-up-spec = tie.close (tie.spec first-nodes-requires set-up-first-requires same-length returns)

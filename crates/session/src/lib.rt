@@ -1,0 +1,102 @@
+// A drill (document 01, Drill program) between two lines, and what one line does to its group of nodes and its store.
+// Everything is proved, no public function has a `requires`, and each gives what one definition of specs/ says.
+use answers::Reply;
+use protocol::Answer;
+use protocol::Event;
+use protocol::Node;
+use script::Line;
+ghost use mathlib.Core.Path.{_≡_};
+ghost use lib.ListN.{take};
+ghost use Rattle.protocol.specs.Operation as operation;
+ghost use Rattle.session.specs.Turn.{begun, lineDone, noGroup, sizeAfter};
+
+// A drill between two lines: how many nodes its group has, 0 while no group stands, and the nodes held, of which the
+// first ones are the group's table. The store is lent beside it.
+pub struct Drill {
+    pub n: u64,
+    pub nodes: [Node; Node::MAX_NODES],
+}
+
+// What a line prints after its count, and the drill afterwards.
+pub struct Turn {
+    pub reply: Reply,
+    pub drill: Drill,
+}
+
+impl Drill {
+    // As a drill begins: no group stands.
+    pub fn none() -> Drill
+        ensures { λ r. ⌜ r ≡ noGroup ⌝ }
+    {
+        let node = act::no_node();
+        Drill {
+            n: 0,
+            nodes: [node; Node::MAX_NODES],
+        }
+    }
+}
+
+// What a line does.
+pub fn take_line(drill: Drill, store: &mut [u8], line: Line) -> Turn
+    ensures { λ r. ⌜ (r ≡ lineDone line drill (now (store .entry)) .turn) × (now (store .exit) ≡ lineDone line drill (now (store .entry)) .store) ⌝ }
+{
+    match line {
+        Line::SetUp(n) => begin(drill, store, n),
+        Line::Call(event) => call(drill, store, event),
+        Line::Unread => Turn {
+            reply: Reply::Unread,
+            drill: drill,
+        },
+    }
+}
+
+// Set up of a group of n. A refused one leaves the group that stands.
+fn begin(drill: Drill, store: &mut [u8], n: u64) -> Turn
+    ensures { λ r. ⌜ (r ≡ begun n drill (operation.setUp n (take n (drill .nodes)) (now (store .entry))) .turn) × (now (store .exit) ≡ begun n drill (operation.setUp n (take n (drill .nodes)) (now (store .entry))) .store) ⌝ }
+{
+    let held = drill.nodes;
+    let outcome = lending::set_up(held, store, n);
+    let nodes = outcome.nodes;
+    let answer = outcome.answer;
+    Turn {
+        reply: Reply::Answered(answer),
+        drill: Drill {
+            n: size_after(n, drill.n, answer),
+            nodes: nodes,
+        },
+    }
+}
+
+// How many nodes the group has after a set-up that was answered so.
+fn size_after(n: u64, before: u64, answer: Answer) -> u64
+    ensures { λ r. ⌜ r ≡ sizeAfter n before answer ⌝ }
+{
+    match answer {
+        Answer::Ok => n,
+        Answer::Settled(_) => n,
+        Answer::Accepted(_) => n,
+        Answer::Stopped(_) => n,
+        Answer::Refused(_) => before,
+    }
+}
+
+// An event of the group that stands; unread where none does.
+fn call(drill: Drill, store: &mut [u8], event: Event) -> Turn
+    ensures { λ r. ⌜ (r ≡ lineDone (Line.Call event) drill (now (store .entry)) .turn) × (now (store .exit) ≡ lineDone (Line.Call event) drill (now (store .entry)) .store) ⌝ }
+{
+    let n = drill.n;
+    if n == 0 {
+        return Turn {
+            reply: Reply::Unread,
+            drill: drill,
+        };
+    }
+    let held = drill.nodes;
+    let outcome = lending::perform(held, n, store, event);
+    let nodes = outcome.nodes;
+    let answer = outcome.answer;
+    Turn {
+        reply: Reply::Answered(answer),
+        drill: Drill { n: n, nodes: nodes },
+    }
+}
