@@ -1,30 +1,61 @@
 // An event at one node by value, with the lent store: everything that decides. Nothing here touches the table; whoever
-// has it reads the node first and puts it back afterwards. Everything is proved, no public function has a `requires`,
-// and each gives what one definition of specs/ says.
-mod before;
-mod carry;
-mod event;
-
-pub use before::look;
-pub use before::no_node;
-pub use event::act;
-use protocol::Answer;
+// has it reads the node first and puts it back afterwards. Everything is proved, no function has a `requires`, and each
+// gives what one definition of the crate `outcome` says.
+use carrying::carry_out;
+use delivering::deliver_message;
+use delivering::drop_message;
+use engine::crash;
+use engine::retry;
+use engine::start;
+use engine::write;
+pub use looking::look;
+pub use looking::no_node;
+pub use outcome::Acted;
+pub use outcome::Seen;
+use outcome::refused;
+use protocol::Event;
 use protocol::Node;
+use protocol::Refusal;
+use protocol::Step;
+ghost use mathlib.Core.Path.{_≡_};
+ghost use Rattle.outcome.specs.Act.{handedBack, atNode, onSound, acted};
 
-// What is seen of store and event before the table is read.
-pub struct Seen {
-    // Whether the store is sound; of one that is not, the other numbers are 0.
-    pub sound: bool,
-    // The group's size.
-    pub n: usize,
-    // The free records.
-    pub free: usize,
-    // Whose event it is: the node number given, or the addressee of the message. 0 where there is no message.
-    pub place: usize,
+// The decision of node `k`, where the group has this node.
+fn at_node(s: &mut [u8], node: Node, seen: Seen, k: u64, step: Step) -> Acted
+    ensures { λ r. ⌜ (r ≡ handedBack (atNode node (now (s .entry)) seen k step)) × (now (s .exit) ≡ atNode node (now (s .entry)) seen k step .store) ⌝ }
+{
+    if seen.n <= k as usize {
+        return refused(Refusal::NoNode, node);
+    }
+    carry_out(s, node, seen.free, k as usize, step)
 }
 
-// The answer, and the node afterwards.
-pub struct Acted {
-    pub answer: Answer,
-    pub node: Node,
+// An event on a sound table and store.
+fn on_sound(s: &mut [u8], node: Node, seen: Seen, event: Event) -> Acted
+    ensures { λ r. ⌜ (r ≡ handedBack (onSound event node (now (s .entry)) seen)) × (now (s .exit) ≡ onSound event node (now (s .entry)) seen .store) ⌝ }
+{
+    match event {
+        Event::Write { node: k, tag } => at_node(s, node, seen, k, write(node, tag)),
+        Event::Retry { node: k } => at_node(s, node, seen, k, retry(node)),
+        Event::Crash { node: k } => at_node(s, node, seen, k, crash(node)),
+        Event::Start { node: k } => at_node(s, node, seen, k, start(node)),
+        Event::Drop { record } => drop_message(s, node, record),
+        Event::Deliver { record } => deliver_message(s, node, seen.free, record),
+    }
+}
+
+// An event at its node: `seen` is what is seen of store and event, and `sound_table` whether the table is sound.
+pub fn act(s: &mut [u8], node: Node, sound_table: bool, seen: Seen, event: Event) -> Acted
+    ensures { λ r. ⌜ (r ≡ handedBack (acted event «sound_table» seen node (now (s .entry)))) × (now (s .exit) ≡ acted event «sound_table» seen node (now (s .entry)) .store) ⌝ }
+{
+    if s.len() != store::LENGTH {
+        return refused(Refusal::StoreLength, node);
+    }
+    if !seen.sound {
+        return refused(Refusal::Unsound, node);
+    }
+    if !sound_table {
+        return refused(Refusal::Unsound, node);
+    }
+    on_sound(s, node, seen, event)
 }

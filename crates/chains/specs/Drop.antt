@@ -9,14 +9,14 @@ use native.Mathlib.Omega.{arith}
 use lib.ListN.{length, set}
 use Rattle.item.specs.Maxima.{validSize}
 use Rattle.record.specs.declared.Reading.the-variants.{Fault}
-use Rattle.record.specs.Layout.{recordSize, nextOf}
+use Rattle.record.specs.Layout.{recordSize, nextOf, rowsOf}
 use Rattle.record.specs.Record.{readRecord, withNext, noRecord, zeroAfterNext}
 use Rattle.store.specs.Records.{recordIn}
 use Rattle.store.specs.Head.{firstFree, groupSize, firstOf, headZero, withFirstFree}
 use Rattle.store.specs.Chain.{nextIn}
 use Rattle.store.specs.Sound.{soundRecords, freeCount, messageIn}
 use Rattle.store.specs.Change.{unlinked, freed, dropIn}
-use Rattle.store.specs.Bytes.{Alike, alike-read, alike-zero, cleared-none, cleared-zero, next-cleared}
+use Rattle.store.specs.Bytes.{Alike, alike-read, alike-rows, alike-zero, cleared-none, cleared-zero, next-cleared}
 use Rattle.store.specs.Joined.{Sized}
 use Rattle.store.specs.Locality.{Local, set-same, set-other, local-alike, unlinked-local, drop-local}
 use Rattle.chains.specs.Times.{times, by-same, times-append, times-head, stands-head, stands-cases, without, changed, changed-at, changed-other, Split, split-at}
@@ -183,6 +183,7 @@ pub record DropDone (rs : List (List ℕ)) (k r : ℕ) : Type 0 where
   pub others : (j : ℕ) → j < groupSize rs → j ≢ k → inboxList (dropIn rs k r) j ≡ inboxList rs j
   pub message : messageIn (dropIn rs k r) r ≡ Fault
   pub messages : (y : ℕ) → y ≢ r → messageIn (dropIn rs k r) y ≡ messageIn rs y
+  pub rows-same : (y : ℕ) → y ≢ 0 → y ≢ r → rowsOf (recordIn (dropIn rs k r) y) ≡ rowsOf (recordIn rs y)
   pub more : freeCount (dropIn rs k r) ≡ suc (freeCount rs)
 
 pub drop-done : (rs : List (List ℕ)) → Sound rs → (k : ℕ) → k < groupSize rs → (r : ℕ) → 0 < times r (inboxList rs k) → DropDone rs k r
@@ -200,6 +201,7 @@ drop-done rs g k low r on =
           (λ z. message-read rs′ y z ∙ ap (λ (m : ℕ). readRecord m (recordIn rs′ y)) (kept .size)
           ∙ alike-read (drop-other rs (g .sized) (g .few) valid (freeList rs) (inboxList rs) c k low r (s .before) (s .after) (s .whole) y z d) (groupSize rs)
           ∙ sym (message-read rs y z));
+      rows-same = λ y z d. alike-rows (drop-other rs (g .sized) (g .few) valid (freeList rs) (inboxList rs) c k low r (s .before) (s .after) (s .whole) y z d);
       more = omega (arith, free-count rs (g .is-sound), free-count rs′ sound′, ap length (free-is done));
     }
   where

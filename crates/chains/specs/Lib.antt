@@ -13,3 +13,4 @@ pub mod PutEach
 pub mod Drop
 pub mod Empty
 pub mod Stores
+pub mod Held

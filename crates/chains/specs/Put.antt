@@ -12,14 +12,14 @@ use Rattle.item.specs.Maxima.{validSize}
 use Rattle.item.specs.declared.Item.{Item}
 use Rattle.message.specs.declared.Envelope.{Envelope}
 use Rattle.record.specs.declared.Reading.the-variants.{Found}
-use Rattle.record.specs.Layout.{recordSize, nextOf}
+use Rattle.record.specs.Layout.{recordSize, nextOf, rowsOf}
 use Rattle.record.specs.Record.{readRecord, recordBytes}
 use Rattle.store.specs.Records.{recordIn}
 use Rattle.store.specs.Head.{firstFree, groupSize, firstOf, headZero, withFirstFree}
 use Rattle.store.specs.Chain.{nextIn}
 use Rattle.store.specs.Sound.{belongsTo, soundRecords, freeCount, messageIn}
 use Rattle.store.specs.Change.{appended, taken, putIn}
-use Rattle.store.specs.Bytes.{Alike, alike-read, alike-zero, next-written}
+use Rattle.store.specs.Bytes.{Alike, alike-read, alike-rows, alike-zero, next-written}
 use Rattle.store.specs.Joined.{Sized}
 use Rattle.store.specs.Locality.{Local, Holds, set-same, set-other, local-alike, free-local, taken-local, appended-local, put-local}
 use Rattle.chains.specs.Times.{times, by-same, times-head, times-other, times-append, stands-head, stands-tail, changed, changed-at, changed-other}
@@ -216,6 +216,8 @@ pub record PutDone (rs : List (List ℕ)) (e : Envelope) (rows : List Item) : Ty
   pub others : (j : ℕ) → j < groupSize rs → j ≢ e .addressee → inboxList (putIn rs e rows) j ≡ inboxList rs j
   pub message : messageIn (putIn rs e rows) (firstFree rs) ≡ Found e
   pub messages : (r : ℕ) → r ≢ firstFree rs → messageIn (putIn rs e rows) r ≡ messageIn rs r
+  pub rows-put : rowsOf (recordIn (putIn rs e rows) (firstFree rs)) ≡ rowsOf (recordBytes (groupSize rs) 0 e rows)
+  pub rows-same : (r : ℕ) → r ≢ 0 → r ≢ firstFree rs → rowsOf (recordIn (putIn rs e rows) r) ≡ rowsOf (recordIn rs r)
   pub fewer : suc (freeCount (putIn rs e rows)) ≡ freeCount rs
 
 pub put-done : (rs : List (List ℕ)) → Sound rs → (e : Envelope) (rows : List Item) → ForGroup (groupSize rs) e rows → firstFree rs ≢ 0 → PutDone rs e rows
@@ -234,6 +236,8 @@ put-done rs g e rows fits some =
           (λ z. message-read rs′ r z ∙ ap (λ (m : ℕ). readRecord m (recordIn rs′ r)) (kept-all .size)
           ∙ alike-read (put-other rs (g .sized) (g .few) valid e rows fits some t (inboxList rs) c r z d) (groupSize rs)
           ∙ sym (message-read rs r z));
+      rows-put = alike-rows (put-it rs (g .sized) (g .few) valid e rows fits some t (inboxList rs) c);
+      rows-same = λ r z d. alike-rows (put-other rs (g .sized) (g .few) valid e rows fits some t (inboxList rs) c r z d);
       fewer = omega (arith, free-count rs (g .is-sound), free-count rs′ sound′, ap length (cut .1), ap length free′);
     }
   where

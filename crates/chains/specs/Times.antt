@@ -91,7 +91,7 @@ stands-head x l = omega (arith, times-head x x l refl)
 -- ---- a list in which none of m numbers stands twice, and no other, has at most m
 
 -- how many of the first m numbers stand in it, each as often as it does
-total : ℕ → List ℕ → ℕ
+unfoldable pub total : ℕ → List ℕ → ℕ
 total zero l = 0
 total (suc m) l = times m l + total m l
 
@@ -112,7 +112,7 @@ total-cons (suc m) x l h =
     none zero h = refl
     none (suc k) h = omega (arith, none k (omega arith), times-other x k l (omega arith))
 
-total-length : (m : ℕ) (l : List ℕ) → ((r : ℕ) → m ≤ r → times r l ≡ 0) → total m l ≡ length l
+pub total-length : (m : ℕ) (l : List ℕ) → ((r : ℕ) → m ≤ r → times r l ≡ 0) → total m l ≡ length l
 unfolding times
 total-length m [] h = total-nil m
 total-length m (x ∷ l) h =

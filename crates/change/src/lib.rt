@@ -10,34 +10,7 @@ use protocol::Peer;
 use protocol::Phase;
 use protocol::Stage;
 ghost use mathlib.Core.Path.{_≡_};
-ghost use Rattle.protocol.specs.Node.{blankNode, crashed as crashedNode, started as startedNode, storingBegun, withRow, withCounted, confirmingBegun, writeEnded, withRows, freshNode};
-
-// Down; only number, n and incarnation remain.
-pub fn crashed(node: Node) -> Node
-    ensures { λ r. ⌜ r ≡ crashedNode node ⌝ }
-{
-    let incarnation = node.incarnation;
-    Node::blank(node.number, node.n, incarnation)
-}
-
-// Fetching in the next incarnation, and nothing is known yet.
-pub fn started(node: Node) -> Node
-    ensures { λ r. ⌜ r ≡ startedNode node ⌝ }
-{
-    let incarnation = node.incarnation;
-    let row = Row::zero();
-    let peer = Peer::none();
-    Node {
-        number: node.number,
-        n: node.n,
-        incarnation: incarnation.next(),
-        attempt: Attempt(0),
-        phase: Phase::Fetching,
-        rows: [row; Node::MAX_ROWS],
-        counted: [peer; Node::MAX_ROWS],
-        asked: [peer; Node::MAX_ROWS],
-    }
-}
+ghost use Rattle.protocol.specs.Node.{storingBegun, withRow, withCounted, confirmingBegun, writeEnded, withRows};
 
 // A write begins or begins again: the own row takes the item with these counters, and nobody is counted or asked.
 pub fn storing_begun(node: Node, phase: Phase, attempt: Attempt, item: Item) -> Node
@@ -141,12 +114,4 @@ pub fn with_rows(node: Node, rows: [Row; Node::MAX_ROWS]) -> Node
     let mut next = node;
     next.rows = rows;
     next
-}
-
-// A node as Set up leaves it: Up and Idle, incarnation 1, all else zero.
-pub fn fresh_node(number: usize, n: usize) -> Node
-    ensures { λ r. ⌜ r ≡ freshNode number n ⌝ }
-{
-    let blank = Node::blank(number, n, Incarnation(1));
-    write_ended(blank)
 }

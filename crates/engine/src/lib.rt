@@ -1,5 +1,6 @@
 // The engine over one node by value: every event, and a message delivered by its kind. Everything is proved, no public
 // function has a `requires`, and each gives what one definition of protocol's specs/ says.
+use confirming::on_confirmed;
 use fetching::on_fetch;
 use fetching::on_table;
 use item::Item;
@@ -9,13 +10,12 @@ pub use node::fresh_node;
 use protocol::Node;
 use protocol::Refusal;
 use protocol::Step;
-use storing::on_confirm;
-use storing::on_confirmed;
-use storing::on_store;
+use reply_confirm::on_confirm;
+use reply_store::on_store;
+pub use restarting::crash;
+pub use restarting::start;
+pub use retrying::retry;
 use storing::on_stored;
-pub use writing::crash;
-pub use writing::retry;
-pub use writing::start;
 pub use writing::write;
 ghost use mathlib.Core.Path.{_≡_};
 ghost use Rattle.protocol.specs.Answer.{refusalNumber};

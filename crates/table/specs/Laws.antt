@@ -82,10 +82,9 @@ fresh-first n t (suc k) h =
     ∙ sym (append-assoc fs (freshNode k n ∷ []) (drop (suc k) t))
     ∙ ap (λ (u : List Node). u ++ drop (suc k) t) (sym (fresh-last n 0 k ∙ ap (λ (j : ℕ). fs ++ freshNode j n ∷ []) z))
 
-pub fresh-all : (n : ℕ) (t : List Node) → length t ≡ n → freshTo n t (length t) ≡ freshTable n
+pub fresh-all : (n : ℕ) (t : List Node) → length t ≡ n → freshTo n t n ≡ freshTable n
 unfolding freshTable
 fresh-all n t e =
-    fresh-first n t (length t) (omega arith)
-    ∙ ap (λ (u : List Node). freshNodes n 0 (length t) ++ u) (drop-of-length-le t {i = length t} (omega arith))
-    ∙ append-nil (freshNodes n 0 (length t))
-    ∙ ap (freshNodes n 0) e
+    fresh-first n t n (omega (arith, e))
+    ∙ ap (λ (u : List Node). freshNodes n 0 n ++ u) (drop-of-length-le t {i = n} (omega (arith, e)))
+    ∙ append-nil (freshNodes n 0 n)

@@ -8,8 +8,7 @@ ghost use Prim.Native.Nat.{_<_};
 ghost use lib.ListN.{length, set, getD};
 ghost use Rattle.protocol.specs.Node.{freshNode};
 ghost use Rattle.protocol.specs.Sound.{soundNode};
-ghost use Rattle.protocol.specs.Table.{noNode};
-ghost use Rattle.table.specs.Check.{soundTo};
+ghost use Rattle.protocol.specs.Table.{noNode, soundTable};
 ghost use Rattle.table.specs.Fill.{freshTo};
 
 // The node at `i`.
@@ -51,7 +50,7 @@ fn and_sound(ok: bool, node: Node, i: usize, n: usize) -> bool
 
 // Whether the table has n nodes and each is sound at its place.
 pub fn check_table(table: &[Node], n: usize) -> bool
-    ensures { λ r. ⌜ r ≡ soundTo n (now (table .entry)) (length (now (table .entry))) ⌝ }
+    ensures { λ r. ⌜ r ≡ soundTable n (now (table .entry)) ⌝ }
 {
     let mut ok = table.len() == n;
     let mut i: usize = 0;
@@ -69,12 +68,12 @@ fn fresh_at(i: usize, n: usize) -> Node
     node::fresh_node(i, n)
 }
 
-// Every node becomes that of a group of n as it is set up.
+// The first n nodes become those of a group of n as it is set up; a table of fewer nodes is filled to its end.
 pub fn fill_table(table: &mut [Node], n: usize)
-    ensures { λ _. ⌜ now (table .exit) ≡ freshTo n (now (table .entry)) (length (now (table .entry))) ⌝ }
+    ensures { λ _. ⌜ now (table .exit) ≡ freshTo n (now (table .entry)) n ⌝ }
 {
     let mut i: usize = 0;
-    while i < table.len() {
+    while i < n {
         replace_node(table, i, fresh_at(i, n));
         i += 1;
     }

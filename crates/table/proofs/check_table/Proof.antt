@@ -49,6 +49,7 @@ use denote.Triple.Walked.{says, Stays, stay-none, stay-none-slice, walkOf, goes-
 use Rattle.protocol.specs.declared.Node.{Node}
 use Rattle.protocol.specs.Table.{noNode}
 use Rattle.table.specs.Check.{soundTo}
+use Rattle.table.specs.Laws.{sound-all}
 use Rattle.protocol.specs.Sound.{soundNode}
 use Rattle.table.proofs.Walk.{env-of, ty-of, after}
 use Rattle.table.proofs.node_at as node-at
@@ -127,7 +128,7 @@ module _ {M : Type 1} (𝓤 : URA M) (H : Heap 𝓤) (A : Atoms 𝓤) (W : Given
   exits : (i : ℕ) → i ≡ length ys → n < 2 ^ 64 → ent 𝓤 (⋆ 𝓤 H A (‵ (flft κ q) ∷ ‵ Own ∷ [])) (Post (vbool (soundTo n ys i)))
   exits i e gn =
       qed W (‵ (flft κ q) ∷ ‵ Own ∷ []) ∵
-      suffices ! _ (ends-at 𝓤 H A check-table.ended stayed (check-table.clauses 𝓤 H A mem run) W (((κ, tt), (q, tt), tt, (x, (n, tt)), at), tt) (vbool (soundTo n ys i)) (soundTo n ys i) (tt, (tt, tt)) (tt, (tt, tt))) $ says ! (ap (λ (k : ℕ). soundTo n ys k) e) $
+      suffices ! _ (ends-at 𝓤 H A check-table.ended stayed (check-table.clauses 𝓤 H A mem run) W (((κ, tt), (q, tt), tt, (x, (n, tt)), at), tt) (vbool (soundTo n ys i)) (soundTo n ys i) (tt, (tt, tt)) (tt, (tt, tt))) $ says ! (ap (λ (k : ℕ). soundTo n ys k) e ∙ sound-all n ys) $
       nothing ! $ move ! (1 ∷ 0 ∷ []) $ join ! $ frame ! $ nothing ! $ owned ! usize (Is usize) (uint-makes 𝓤 H A W w64) n _ (refl, gn) $ fjoin ! $ move ! (1 ∷ 0 ∷ []) $ fjoin ! $ frame ! $ owned ! bool (Is bool) (bool-makes 𝓤 H A W) (soundTo n ys i) _ refl $ done !
 
   -- how far the loop is

@@ -113,16 +113,16 @@ module _ {M : Type 1} (𝓤 : URA M) (H : Heap 𝓤) (A : Atoms 𝓤) (W : Given
 
   -- how far the loop is, and the table there
   abbrev Upto : Type 0
-  Upto = (i : ℕ) × (i ≤ length ys)
+  Upto = (i : ℕ) × (i ≤ n)
 
   abbrev now-at : Upto → List Node
   now-at i = freshTo n ys (i .0)
 
   abbrev Nearer : Upto → Upto → Type 0
-  Nearer j i = length ys - j .0 < length ys - i .0
+  Nearer j i = n - j .0 < n - i .0
 
   Nearer-wf : WellFounded Nearer
-  Nearer-wf = InvImage·wf (λ (i : Upto). length ys - i .0) (Nat·lt-wfRel .wf)
+  Nearer-wf = InvImage·wf (λ (i : Upto). n - i .0) (Nat·lt-wfRel .wf)
 
   abbrev to-fresh : ℕ → Fresh 𝓤 H A mem run .Ghost
   to-fresh i = ((tt, tt, tt, (i, (n, tt)), (vint w64 i ∷ [], (vint w64 n ∷ [], tt))), tt)
@@ -141,7 +141,7 @@ module _ {M : Type 1} (𝓤 : URA M) (H : Heap 𝓤) (A : Atoms 𝓤) (W : Given
       suffices ! (onEntry 𝓤 H A replace.signature (ν ∷ [], tt) (fullShare, tt) (x δ (now-at i), (i .0, (r, tt))) (sv (now-at i) ∷ [], (vint w64 (i .0) ∷ [], (w ∷ [], tt)))) (∗emp 𝓤 _) $
       nothing ! $ move ! (1 ∷ 0 ∷ []) $ join ! $ frame ! $ nothing ! $ move ! (2 ∷ 0 ∷ []) $ fjoin ! $ owned ! usize (Is usize) (uint-makes 𝓤 H A W w64) (i .0) _ (refl, gi) $ fjoin ! $ move ! (1 ∷ 0 ∷ []) $ fjoin ! $ done !
 
-  exits : (i : ℕ) → i ≡ length ys → Room T.the-row (length ys) → n < 2 ^ 64 → ent 𝓤 (⋆ 𝓤 H A (‵ (flft κ q) ∷ ‵ (MutSlice (named 0) κ T.the-row .own (x γ (freshTo n ys i)) (sv (freshTo n ys i) ∷ [])) ∷ [])) (Post vunit)
+  exits : (i : ℕ) → i ≡ n → Room T.the-row (length ys) → n < 2 ^ 64 → ent 𝓤 (⋆ 𝓤 H A (‵ (flft κ q) ∷ ‵ (MutSlice (named 0) κ T.the-row .own (x γ (freshTo n ys i)) (sv (freshTo n ys i) ∷ [])) ∷ [])) (Post vunit)
   exits i e room gn =
       qed W (‵ (flft κ q) ∷ ‵ (MutSlice (named 0) κ T.the-row .own (x γ (freshTo n ys i)) (sv (freshTo n ys i) ∷ [])) ∷ []) ∵
       suffices ! _ (ends-at 𝓤 H A fill-table.ended stayed (fill-table.clauses 𝓤 H A mem run) W (((κ, tt), (q, tt), tt, a, at), tt) vunit tt (freshTo n ys i, (tt, tt)) (fill-length ys n i, (tt, tt))) $ says ! (ap (λ (k : ℕ). freshTo n ys k) e) $
@@ -158,51 +158,50 @@ module _ {M : Type 1} (𝓤 : URA M) (H : Heap 𝓤) (A : Atoms 𝓤) (W : Given
     abbrev τ : ℕ → Ty
     τ k = ty-of (code.function .locals) k
 
-    module _ (l₀ l₁ l₂ l₃ l₄ l₅ l₆ l₇ l₈ l₉ : ℕ) where
+    module _ (l₀ l₁ l₂ l₃ l₄ l₅ l₆ l₇ l₈ : ℕ) where
       abbrev En : Env 𝓤 H
-      En = env-of (code.function .locals) (l₀ ∷ l₁ ∷ l₂ ∷ l₃ ∷ l₄ ∷ l₅ ∷ l₆ ∷ l₇ ∷ l₈ ∷ l₉ ∷ [])
+      En = env-of (code.function .locals) (l₀ ∷ l₁ ∷ l₂ ∷ l₃ ∷ l₄ ∷ l₅ ∷ l₆ ∷ l₇ ∷ l₈ ∷ [])
 
       abbrev At : Upto → List (Item 𝓤)
-      At i = ‵ (froom (τ 9) l₉ 0) ∷ ‵ (fdies (τ 9) l₉) ∷ ‵ (froom (τ 8) l₈ 0) ∷ ‵ (fdies (τ 8) l₈) ∷ ‵ (froom (τ 7) l₇ 0) ∷ ‵ (fdies (τ 7) l₇) ∷ ‵ (froom (τ 6) l₆ 0) ∷ ‵ (fdies (τ 6) l₆) ∷ ‵ (froom (τ 5) l₅ 0) ∷ ‵ (fdies (τ 5) l₅) ∷ ‵ (froom (τ 4) l₄ 0) ∷ ‵ (fdies (τ 4) l₄) ∷ ‵ (fat fullShare (τ 3) l₃ 0 (vint w64 (i .0))) ∷ ‵ (fdies (τ 3) l₃) ∷ ‵ (fat fullShare (τ 2) l₂ 0 (vint w64 n)) ∷ ‵ (fdies (τ 2) l₂) ∷ ‵ (fat fullShare (τ 1) l₁ 0 (sv ys)) ∷ ‵ (fdies (τ 1) l₁) ∷ ‵ (froom (τ 0) l₀ 0) ∷ ‵ (fdies (τ 0) l₀) ∷ ‵ (flft κ q) ∷ ‵ (MutSlice (named 0) κ T.the-row .own (x γ (now-at i)) (sv (now-at i) ∷ [])) ∷ []
+      At i = ‵ (froom (τ 8) l₈ 0) ∷ ‵ (fdies (τ 8) l₈) ∷ ‵ (froom (τ 7) l₇ 0) ∷ ‵ (fdies (τ 7) l₇) ∷ ‵ (froom (τ 6) l₆ 0) ∷ ‵ (fdies (τ 6) l₆) ∷ ‵ (froom (τ 5) l₅ 0) ∷ ‵ (fdies (τ 5) l₅) ∷ ‵ (froom (τ 4) l₄ 0) ∷ ‵ (fdies (τ 4) l₄) ∷ ‵ (fat fullShare (τ 3) l₃ 0 (vint w64 (i .0))) ∷ ‵ (fdies (τ 3) l₃) ∷ ‵ (fat fullShare (τ 2) l₂ 0 (vint w64 n)) ∷ ‵ (fdies (τ 2) l₂) ∷ ‵ (fat fullShare (τ 1) l₁ 0 (sv ys)) ∷ ‵ (fdies (τ 1) l₁) ∷ ‵ (froom (τ 0) l₀ 0) ∷ ‵ (fdies (τ 0) l₀) ∷ ‵ (flft κ q) ∷ ‵ (MutSlice (named 0) κ T.the-row .own (x γ (now-at i)) (sv (now-at i) ∷ [])) ∷ []
 
       abbrev Turned : Upto → Out → SProp 𝓤
       Turned i = afterTurn 𝓤 H (Below 𝓤 H A Nearer At i) (afterBlock 𝓤 H (afterSeq 𝓤 H (Wp 𝓤 H C Λ En body.t-3 (atReturn 𝓤 H En Post)) (atReturn 𝓤 H En Post)))
 
-    module _ (room : Room T.the-row (length ys)) (gn : n < 2 ^ 64) (fm : FmC 𝓤 H (W .laws) C) (known-fresh : Triple 𝓤 (C #fresh) (Fresh 𝓤 H A mem run)) (known-replace : Triple 𝓤 (C #replace) (Replace 𝓤 H A mem run)) (l₀ l₁ l₂ l₃ l₄ l₅ l₆ l₇ l₈ l₉ : ℕ) where
-      turns : (i : Upto) → Sq W (At l₀ l₁ l₂ l₃ l₄ l₅ l₆ l₇ l₈ l₉ i) (runs C Λ (En l₀ l₁ l₂ l₃ l₄ l₅ l₆ l₇ l₈ l₉) body.turn-1 (anyQ (Turned l₀ l₁ l₂ l₃ l₄ l₅ l₆ l₇ l₈ l₉ i)))
+    module _ (room : Room T.the-row (length ys)) (gn : n < 2 ^ 64) (fm : FmC 𝓤 H (W .laws) C) (known-fresh : Triple 𝓤 (C #fresh) (Fresh 𝓤 H A mem run)) (known-replace : Triple 𝓤 (C #replace) (Replace 𝓤 H A mem run)) (l₀ l₁ l₂ l₃ l₄ l₅ l₆ l₇ l₈ : ℕ) where
+      turns : (i : Upto) → Sq W (At l₀ l₁ l₂ l₃ l₄ l₅ l₆ l₇ l₈ i) (runs C Λ (En l₀ l₁ l₂ l₃ l₄ l₅ l₆ l₇ l₈) body.turn-1 (anyQ (Turned l₀ l₁ l₂ l₃ l₄ l₅ l₆ l₇ l₈ i)))
       unfolding afterTurn
       turns i =
-          assigns ! (of-opd ! (load ! (from ! (fld ! refl (stop !))) (look-in ! 16 (sub ! 1 refl (whole !))))) (from ! (stop !)) (init ! 10 refl (tt, record { fits = room .0 })) $
-          assigns ! (bin ! (load ! (from ! (stop !)) (look ! 12 refl)) (load ! (from ! (stop !)) (look ! 10 refl)) tt) (from ! (stop !)) (init ! 8 refl (tt, tt)) $
+          assigns ! (bin ! (load ! (from ! (stop !)) (look ! 10 refl)) (load ! (from ! (stop !)) (look ! 12 refl)) tt) (from ! (stop !)) (init ! 8 refl (tt, tt)) $
           first ! $ branches ! (load ! (from ! (stop !)) (look ! 8 refl))
-          (λ less. skips ! $ exec ! C Λ (En l₀ l₁ l₂ l₃ l₄ l₅ l₆ l₇ l₈ l₉) (after (after (after body.turn-1))) (anyQ (Turned l₀ l₁ l₂ l₃ l₄ l₅ l₆ l₇ l₈ l₉ i)) $
-          assigns ! (addr ! (from ! (fld ! refl (hop ! (look-in ! 16 (sub ! 0 refl (whole !))) (stop !))))) (from ! (stop !)) (init ! 4 refl (tt, tt)) $
-          assigns ! (agg ! (and-then ! (load ! (from ! (stop !)) (look ! 4 refl)) (and-then ! (load ! (from ! (fld ! refl (stop !))) (look-in ! 16 (sub ! 1 refl (whole !)))) (no-more !)))) (from ! (stop !)) (init ! 2 refl (tt, (tt, (record { fits = room .0 }, tt)))) $
-          nothing ! $ use1 W (raw (Fresh 𝓤 H A mem run .pre (to-fresh (i .0)))) (goes-fresh (i .0) (fits i) gn) $ calls-at ! fm (Fresh 𝓤 H A mem run) known-fresh (to-fresh (i .0)) (and-then ! (load ! (from ! (stop !)) (look ! 13 refl)) (and-then ! (load ! (from ! (stop !)) (look ! 15 refl)) (no-more !))) (λ w₁.
+          (λ less. skips ! $ exec ! C Λ (En l₀ l₁ l₂ l₃ l₄ l₅ l₆ l₇ l₈) (after (after body.turn-1)) (anyQ (Turned l₀ l₁ l₂ l₃ l₄ l₅ l₆ l₇ l₈ i)) $
+          assigns ! (addr ! (from ! (fld ! refl (hop ! (look-in ! 14 (sub ! 0 refl (whole !))) (stop !))))) (from ! (stop !)) (init ! 4 refl (tt, tt)) $
+          assigns ! (agg ! (and-then ! (load ! (from ! (stop !)) (look ! 4 refl)) (and-then ! (load ! (from ! (fld ! refl (stop !))) (look-in ! 14 (sub ! 1 refl (whole !)))) (no-more !)))) (from ! (stop !)) (init ! 2 refl (tt, (tt, (record { fits = room .0 }, tt)))) $
+          nothing ! $ use1 W (raw (Fresh 𝓤 H A mem run .pre (to-fresh (i .0)))) (goes-fresh (i .0) (fits i) gn) $ calls-at ! fm (Fresh 𝓤 H A mem run) known-fresh (to-fresh (i .0)) (and-then ! (load ! (from ! (stop !)) (look ! 11 refl)) (and-then ! (load ! (from ! (stop !)) (look ! 13 refl)) (no-more !))) (λ w₁.
           use1 W (later (some (λ (r : Node). (‵ ftrue ⊛ ‵ (T.the-row .own r (w₁ ∷ []))) ⊛ raw (ensured 𝓤 H A fresh.ended (fresh.clauses 𝓤 H A mem run) tt (i .0, (n, tt)) tt r)))) (id⊢ 𝓤 _) $ await ! tt $ pick ! (λ r₁. split ! $ move ! (1 ∷ []) $
           use1 W (raw (fact 𝓤 (r₁ ≡ freshNode (i .0) n))) (fresh-of 𝓤 H A mem run (i .0) n r₁) $ heard ! (r₁ ≡ freshNode (i .0) n) (λ e₁. split ! $ move ! (1 ∷ []) $ peeks ! T.the-row (Is T.the-row) (shows 𝓤 H A T.the-row) r₁ (w₁ ∷ []) (λ is₁. land ! (from ! (stop !)) (init ! 2 refl (LL.lawful T.the-type T′.the-laws 𝓤 H A W .typed r₁ _ is₁ .0)) $
-          lft-new ! tt (λ ν. move ! (24 ∷ 23 ∷ []) $ use2 W (later (some (λ (δ : GName). ‵ (MutSlice (named 0) (ν ∷ []) T.the-row .own (x δ (now-at i)) (sv (now-at i) ∷ [])) ⊛ ‵ (LentAgain T.the-row κ (ν ∷ []) q γ b o δ (now-at i))))) (lends-again T.the-row κ (ν ∷ []) q γ b o 𝓤 H A W (named 0) (named 0) (now-at i)) $ await ! tt $ pick ! (λ δ. split ! $
-          move ! (2 ∷ 0 ∷ 3 ∷ []) $ use3 W (raw (Replace 𝓤 H A mem run .pre (to-replace i ν δ r₁ w₁))) (goes-replace i ν δ r₁ w₁ (fits i)) $ rewrite ! 5 (λ (k : ℕ). ‵ (fat fullShare (τ 8) l₈ 0 (sliceVal (b, o) k))) (sym (fill-length ys n (i .0))) refl $
-          calls-at ! fm (Replace 𝓤 H A mem run) known-replace (to-replace i ν δ r₁ w₁) (and-then ! (load ! (from ! (stop !)) (look ! 5 refl)) (and-then ! (load ! (from ! (stop !)) (look ! 15 refl)) (and-then ! (load ! (from ! (stop !)) (look ! 3 refl)) (no-more !)))) (λ w₂.
+          lft-new ! tt (λ ν. move ! (22 ∷ 21 ∷ []) $ use2 W (later (some (λ (δ : GName). ‵ (MutSlice (named 0) (ν ∷ []) T.the-row .own (x δ (now-at i)) (sv (now-at i) ∷ [])) ⊛ ‵ (LentAgain T.the-row κ (ν ∷ []) q γ b o δ (now-at i))))) (lends-again T.the-row κ (ν ∷ []) q γ b o 𝓤 H A W (named 0) (named 0) (now-at i)) $ await ! tt $ pick ! (λ δ. split ! $
+          move ! (2 ∷ 0 ∷ 3 ∷ []) $ use3 W (raw (Replace 𝓤 H A mem run .pre (to-replace i ν δ r₁ w₁))) (goes-replace i ν δ r₁ w₁ (fits i)) $ rewrite ! 5 (λ (k : ℕ). ‵ (fat fullShare (τ 7) l₇ 0 (sliceVal (b, o) k))) (sym (fill-length ys n (i .0))) refl $
+          calls-at ! fm (Replace 𝓤 H A mem run) known-replace (to-replace i ν δ r₁ w₁) (and-then ! (load ! (from ! (stop !)) (look ! 5 refl)) (and-then ! (load ! (from ! (stop !)) (look ! 13 refl)) (and-then ! (load ! (from ! (stop !)) (look ! 3 refl)) (no-more !)))) (λ w₂.
           use1 W (later (some (λ (r : Unit {0}). ((‵ (flft (ν ∷ []) fullShare) ⊛ ‵ ftrue) ⊛ ‵ (Nothing .own r (w₂ ∷ []))) ⊛ raw (ensured 𝓤 H A replace.ended (replace.clauses 𝓤 H A mem run) (ν ∷ [], tt) (x δ (now-at i), (i .0, (r₁, tt))) tt r)))) (id⊢ 𝓤 _) $ await ! tt $ pick ! (λ r₂. split ! $ move ! (1 ∷ []) $
           use1 W (some (λ (zs : List Node × (Unit {0} × (Unit {0} × Unit {0}))). ‵ (lasts replace.ended (ν ∷ [], tt) (x δ (now-at i), (i .0, (r₁, tt))) zs) ⊛ raw (fact 𝓤 (zs .0 ≡ set (now-at i) (i .0) r₁)))) (id⊢ 𝓤 _) $ pick ! (λ zs. split ! $ move ! (1 ∷ []) $
           heard ! (zs .0 ≡ set (now-at i) (i .0) r₁) (λ e₂. fsplit ! $ fsplit ! $ move ! (1 ∷ []) $ feqL ! (λ same. move ! (2 ∷ []) $ split ! $ split ! $ move ! (2 ∷ []) $ peeks ! Nothing (Is Nothing) (shows 𝓤 H A Nothing) r₂ (w₂ ∷ []) (λ is₂. land ! (from ! (stop !)) (init ! 13 refl (nothing-lawful 𝓤 H A W .typed r₂ _ is₂ .0)) $
           move ! (1 ∷ []) $ lft-end ! tt $ move ! (0 ∷ 5 ∷ 3 ∷ []) $ use3 W (later (‵ (MutSlice (named 0) κ T.the-row .own (x γ (zs .0)) (sv (now-at i) ∷ [])) ⊛ ‵ (flft κ q))) (comes-back T.the-row κ (ν ∷ []) q γ b o 𝓤 H A W (named 0) (named 0) (now-at i) δ (zs .0) (room-at i) same) $ await ! tt $ split ! $
           rewrite ! 0 (λ (k : ℕ). ‵ (MutSlice (named 0) κ T.the-row .own (x γ (zs .0)) (sliceVal (b, o) k ∷ []))) (sym same) refl $
           rewrite ! 0 (λ (t : List Node). ‵ (MutSlice (named 0) κ T.the-row .own (x γ t) (sv t ∷ []))) (fill-step ys n (i .0) r₁ (zs .0) e₁ e₂) refl $
-          assigns-last ! (bin ! (load ! (from ! (stop !)) (look ! 18 refl)) (lit ! tt) (record { fits = fits (next less) })) (from ! (stop !)) (store ! 18 refl (tt, record { fits = fits (next less) })) $
-          forget ! 16 refl $ forget ! 14 refl $ forget ! 12 refl $ forget ! 10 refl $ forget ! 8 refl $ forget ! 6 refl $ keep ! (6 ∷ 7 ∷ 8 ∷ 9 ∷ 10 ∷ 11 ∷ 12 ∷ 13 ∷ 14 ∷ 15 ∷ 16 ∷ 17 ∷ 18 ∷ 19 ∷ 20 ∷ 21 ∷ 22 ∷ 23 ∷ 24 ∷ 25 ∷ 1 ∷ 0 ∷ []) $ again ! Nearer (At l₀ l₁ l₂ l₃ l₄ l₅ l₆ l₇ l₈ l₉) i (next less) (add-one-dec (length ys) (i .0) (ltb→lt (i .0) (length ys) less)))))))))))))))
-          (λ over. jumps ! $ exec ! C Λ (En l₀ l₁ l₂ l₃ l₄ l₅ l₆ l₇ l₈ l₉) body.t-3 (atRet (En l₀ l₁ l₂ l₃ l₄ l₅ l₆ l₇ l₈ l₉) Post) $
-          assigns ! (of-opd ! (unit-lit !)) (from ! (stop !)) (init ! 18 refl (tt, tt)) $
-          returns ! (look ! 18 refl) $ forget ! 8 refl $ forget ! 10 refl $ forget ! 12 refl $ forget ! 14 refl $ forget ! 16 refl $ forget ! 18 refl $
-          move ! (18 ∷ 19 ∷ []) $ free1 ! $ move ! (16 ∷ 17 ∷ []) $ free1 ! $ move ! (14 ∷ 15 ∷ []) $ free1 ! $ move ! (12 ∷ 13 ∷ []) $ free1 ! $ move ! (10 ∷ 11 ∷ []) $ free1 ! $ move ! (8 ∷ 9 ∷ []) $ free1 ! $ move ! (6 ∷ 7 ∷ []) $ free1 ! $ move ! (4 ∷ 5 ∷ []) $ free1 ! $ move ! (2 ∷ 3 ∷ []) $ free1 ! $ free1 ! $ free0 ! $
-          keep ! (0 ∷ 1 ∷ []) $ by ! (exits (i .0) (le-antisymm (i .1) (nltb→le (i .0) (length ys) over)) room gn))
+          assigns-last ! (bin ! (load ! (from ! (stop !)) (look ! 16 refl)) (lit ! tt) (record { fits = fits (next less) })) (from ! (stop !)) (store ! 16 refl (tt, record { fits = fits (next less) })) $
+          forget ! 14 refl $ forget ! 12 refl $ forget ! 10 refl $ forget ! 8 refl $ forget ! 6 refl $ keep ! (6 ∷ 7 ∷ 8 ∷ 9 ∷ 10 ∷ 11 ∷ 12 ∷ 13 ∷ 14 ∷ 15 ∷ 16 ∷ 17 ∷ 18 ∷ 19 ∷ 20 ∷ 21 ∷ 22 ∷ 23 ∷ 1 ∷ 0 ∷ []) $ again ! Nearer (At l₀ l₁ l₂ l₃ l₄ l₅ l₆ l₇ l₈) i (next less) (add-one-dec n (i .0) (ltb→lt (i .0) n less)))))))))))))))
+          (λ over. jumps ! $ exec ! C Λ (En l₀ l₁ l₂ l₃ l₄ l₅ l₆ l₇ l₈) body.t-3 (atRet (En l₀ l₁ l₂ l₃ l₄ l₅ l₆ l₇ l₈) Post) $
+          assigns ! (of-opd ! (unit-lit !)) (from ! (stop !)) (init ! 16 refl (tt, tt)) $
+          returns ! (look ! 16 refl) $ forget ! 8 refl $ forget ! 10 refl $ forget ! 12 refl $ forget ! 14 refl $ forget ! 16 refl $
+          move ! (16 ∷ 17 ∷ []) $ free1 ! $ move ! (14 ∷ 15 ∷ []) $ free1 ! $ move ! (12 ∷ 13 ∷ []) $ free1 ! $ move ! (10 ∷ 11 ∷ []) $ free1 ! $ move ! (8 ∷ 9 ∷ []) $ free1 ! $ move ! (6 ∷ 7 ∷ []) $ free1 ! $ move ! (4 ∷ 5 ∷ []) $ free1 ! $ move ! (2 ∷ 3 ∷ []) $ free1 ! $ free1 ! $ free0 ! $
+          keep ! (0 ∷ 1 ∷ []) $ by ! (exits (i .0) (le-antisymm (i .1) (nltb→le (i .0) n over)) room gn))
         where
           fits : (j : Upto) → j .0 < 2 ^ 64
-          fits j = lt-of-le-of-lt (j .1) (room .0)
+          fits j = lt-of-le-of-lt (j .1) gn
 
-          next : T (ltb (i .0) (length ys)) → Upto
-          next less = (i .0 + 1, add-one-le (ltb→lt (i .0) (length ys) less))
+          next : T (ltb (i .0) n) → Upto
+          next less = (i .0 + 1, add-one-le (ltb→lt (i .0) n less))
 
           room-at : (j : Upto) → Room T.the-row (length (now-at j))
           room-at j = subst (Room T.the-row) (sym (fill-length ys n (j .0))) room
@@ -211,11 +210,11 @@ module _ {M : Type 1} (𝓤 : URA M) (H : Heap 𝓤) (A : Atoms 𝓤) (W : Given
     walk : Room T.the-row (length ys) → n < 2 ^ 64 → ent 𝓤 (onEntry 𝓤 H A fill-table.signature (κ, tt) (q, tt) a at) (WpFn 𝓤 H (𝓣 .C) (𝓣 .Λ) code.function (sv ys ∷ vint w64 n ∷ []) Post)
     walk room gn =
         qed W ((‵ (flft κ q) ⊛ ‵ ftrue) ∷ ‵ (owns (MutSlice (named 0) κ T.the-row ∷ usize ∷ []) a at) ∷ []) ∵ enter ! (𝓣 .C) (𝓣 .Λ) code.function (sv ys ∷ vint w64 n ∷ []) _ $
-        alloc1 ! (λ l₀. alloc1 ! (λ l₁. alloc1 ! (λ l₂. alloc1 ! (λ l₃. alloc1 ! (λ l₄. alloc1 ! (λ l₅. alloc1 ! (λ l₆. alloc1 ! (λ l₇. alloc1 ! (λ l₈. alloc1 ! (λ l₉. alloc0 ! $ params1 ! $
-        pass1 ! (init ! 16 refl (tt, (tt, (record { fits = room .0 }, tt)))) $ pass1 ! (init ! 14 refl (tt, record { fits = gn })) $ pass0 ! $
-        assigns ! (of-opd ! (lit ! tt)) (from ! (stop !)) (init ! 12 refl (tt, record { fits = lit< tt })) $
-        move ! (20 ∷ []) $ split ! $ move ! (22 ∷ []) $ fsplit ! $ keep ! (4 ∷ 5 ∷ 6 ∷ 7 ∷ 8 ∷ 9 ∷ 10 ∷ 11 ∷ 12 ∷ 13 ∷ 14 ∷ 15 ∷ 16 ∷ 17 ∷ 18 ∷ 19 ∷ 20 ∷ 21 ∷ 22 ∷ 23 ∷ 2 ∷ 0 ∷ []) $ rewrite ! 21 (λ (t : List Node). ‵ (MutSlice (named 0) κ T.the-row .own (x γ t) (sv t ∷ []))) (fill-start ys n) refl $
-        first ! $ blocks ! $ loops ! 𝓣 Nearer Nearer-wf (At 𝓣 l₀ l₁ l₂ l₃ l₄ l₅ l₆ l₇ l₈ l₉) (turns 𝓣 room gn fm known-fresh known-replace l₀ l₁ l₂ l₃ l₄ l₅ l₆ l₇ l₈ l₉) (0, zero-le)))))))))))
+        alloc1 ! (λ l₀. alloc1 ! (λ l₁. alloc1 ! (λ l₂. alloc1 ! (λ l₃. alloc1 ! (λ l₄. alloc1 ! (λ l₅. alloc1 ! (λ l₆. alloc1 ! (λ l₇. alloc1 ! (λ l₈. alloc0 ! $ params1 ! $
+        pass1 ! (init ! 14 refl (tt, (tt, (record { fits = room .0 }, tt)))) $ pass1 ! (init ! 12 refl (tt, record { fits = gn })) $ pass0 ! $
+        assigns ! (of-opd ! (lit ! tt)) (from ! (stop !)) (init ! 10 refl (tt, record { fits = lit< tt })) $
+        move ! (18 ∷ []) $ split ! $ move ! (20 ∷ []) $ fsplit ! $ keep ! (4 ∷ 5 ∷ 6 ∷ 7 ∷ 8 ∷ 9 ∷ 10 ∷ 11 ∷ 12 ∷ 13 ∷ 14 ∷ 15 ∷ 16 ∷ 17 ∷ 18 ∷ 19 ∷ 20 ∷ 21 ∷ 2 ∷ 0 ∷ []) $ rewrite ! 19 (λ (t : List Node). ‵ (MutSlice (named 0) κ T.the-row .own (x γ t) (sv t ∷ []))) (fill-start ys n) refl $
+        first ! $ blocks ! $ loops ! 𝓣 Nearer Nearer-wf (At 𝓣 l₀ l₁ l₂ l₃ l₄ l₅ l₆ l₇ l₈) (turns 𝓣 room gn fm known-fresh known-replace l₀ l₁ l₂ l₃ l₄ l₅ l₆ l₇ l₈) (0, zero-le))))))))))
 
 module _ {M : Type 1} (𝓤 : URA M) (H : Heap 𝓤) (A : Atoms 𝓤) (W : Given 𝓤 H A) (mem : Memory → SProp 𝓤) (run : Routine → Fun 𝓤) where
   fill-table-walks : (𝓣 : Tables 𝓤 H) → Triple 𝓤 (𝓣 .C #fresh) (Fresh 𝓤 H A mem run) → Triple 𝓤 (𝓣 .C #replace) (Replace 𝓤 H A mem run)

@@ -1,0 +1,5 @@
+pub mod Sent
+pub mod Steps
+pub mod Calls
+pub mod Deliveries
+pub mod Acts

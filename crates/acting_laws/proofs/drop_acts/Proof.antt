@@ -1,0 +1,10 @@
+-- `acting_laws::drop_acts` meets its contract, by the law proved in `Acts`.
+use Rattle.acting_laws.proofs.drop_acts.Statement.{statement}
+use Rattle.acting_laws.proofs.drop_acts.Tie as tie
+use Rattle.acting_laws.proofs.Acts.{drop-acts}
+
+returns : tie.Need-returns
+returns c = drop-acts
+
+pub drop-acts-spec : {M : Type 1} → statement M
+drop-acts-spec = tie.close (tie.spec returns)

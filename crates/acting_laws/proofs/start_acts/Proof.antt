@@ -1,0 +1,10 @@
+-- `acting_laws::start_acts` meets its contract, by the law proved in `Acts`.
+use Rattle.acting_laws.proofs.start_acts.Statement.{statement}
+use Rattle.acting_laws.proofs.start_acts.Tie as tie
+use Rattle.acting_laws.proofs.Acts.{start-acts}
+
+returns : tie.Need-returns
+returns c = start-acts
+
+pub start-acts-spec : {M : Type 1} → statement M
+start-acts-spec = tie.close (tie.spec returns)

@@ -1,0 +1,52 @@
+// A decision carried out: what it sends goes into the store. Everything is proved, no public function has a `requires`,
+// and each gives what one definition of the crate `outcome` says.
+use outcome::Acted;
+use outcome::refused;
+use protocol::Answer;
+use protocol::Node;
+use protocol::Refusal;
+use protocol::Step;
+use sending::outgoing_of;
+use sending::row_items;
+ghost use mathlib.Core.Path.{_≡_};
+ghost use Rattle.protocol.specs.Operation.{isRefused};
+ghost use Rattle.outcome.specs.Act.{handedBack, carriedOut};
+
+// Whether the answer is a refusal.
+fn is_refused(answer: Answer) -> bool
+    ensures { λ r. ⌜ r ≡ isRefused answer ⌝ }
+{
+    match answer {
+        Answer::Ok => false,
+        Answer::Settled(_) => false,
+        Answer::Accepted(_) => false,
+        Answer::Stopped(_) => false,
+        Answer::Refused(_) => true,
+    }
+}
+
+// The decision `step` of the node, where so many records are free; `back` is the sender of the message delivered.
+// A refused decision leaves everything as it was.
+pub fn carry_out(s: &mut [u8], node: Node, free: usize, back: usize, step: Step) -> Acted
+    ensures { λ r. ⌜ (r ≡ handedBack (carriedOut node (now (s .entry)) free back step)) × (now (s .exit) ≡ carriedOut node (now (s .entry)) free back step .store) ⌝ }
+{
+    let answer = step.answer;
+    if is_refused(answer) {
+        return Acted {
+            answer: answer,
+            node: node,
+        };
+    }
+    let next = step.node;
+    let sends = step.sends;
+    let places = outgoing_of(next, sends, back);
+    if free < mail::count_outgoing(places) {
+        return refused(Refusal::NoRoom, node);
+    }
+    let items = row_items(next);
+    mail::put_each(s, places, items);
+    Acted {
+        answer: answer,
+        node: next,
+    }
+}

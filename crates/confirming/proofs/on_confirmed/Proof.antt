@@ -1,0 +1,90 @@
+-- `confirming::on_confirmed` meets its contract: a refusal for each test, and the sender counted.
+use Rattle.item.specs.Tests.{refuted, granted}
+use Rattle.node.proofs.Answered.{answered}
+use Rattle.protocol.specs.Storing.{onConfirmed}
+use Rattle.confirming.proofs.on_confirmed.Statement.{statement}
+use Rattle.confirming.proofs.on_confirmed.Tie as tie
+
+is-confirming-requires : tie.Need-is-confirming-requires
+is-confirming-requires c κs = tt
+
+refused-requires : tie.Need-refused-requires
+refused-requires c κs = tt
+
+returns : tie.Need-returns
+unfolding onConfirmed
+returns c = rw (c .refused .ensures, refuted (c .before .before .is-confirming .ensures) (c .before .if1 .taken))
+
+own-write-requires : tie.Need-own-write-requires
+own-write-requires c κs = tt
+
+refused-requires-2 : tie.Need-refused-requires-2
+refused-requires-2 c κs = tt
+
+returns-2 : tie.Need-returns-2
+unfolding onConfirmed
+returns-2 c =
+    let confirming = granted (c .before .before .before .before .is-confirming .ensures) (c .before .before .before .if1 .left) in
+    rw (c .refused2 .ensures, confirming, refuted (c .before .before .own-write .ensures) (c .before .if2 .taken))
+
+asked-under-requires : tie.Need-asked-under-requires
+asked-under-requires c κs = tt
+
+refused-requires-3 : tie.Need-refused-requires-3
+refused-requires-3 c κs = tt
+
+returns-3 : tie.Need-returns-3
+unfolding onConfirmed
+returns-3 c =
+    let confirming = granted (c .before .before .before .before .before .before .is-confirming .ensures) (c .before .before .before .before .before .if1 .left) in
+    let own = granted (c .before .before .before .before .own-write .ensures) (c .before .before .before .if2 .left) in
+    rw (c .refused3 .ensures, confirming, own, refuted (c .before .before .asked-under .ensures) (c .before .if3 .taken))
+
+is-counted-requires : tie.Need-is-counted-requires
+is-counted-requires c κs = tt
+
+refused-requires-4 : tie.Need-refused-requires-4
+refused-requires-4 c κs = tt
+
+returns-4 : tie.Need-returns-4
+unfolding onConfirmed
+returns-4 c =
+    let confirming = granted (c .before .before .before .before .before .before .before .before .is-confirming .ensures) (c .before .before .before .before .before .before .before .if1 .left) in
+    let own = granted (c .before .before .before .before .before .before .own-write .ensures) (c .before .before .before .before .before .if2 .left) in
+    let asked = granted (c .before .before .before .before .asked-under .ensures) (c .before .before .before .if3 .left) in
+    rw (c .refused4 .ensures, confirming, own, asked, answered (c .before .before .is-counted .ensures) (c .before .if4 .taken))
+
+with-counted-requires : tie.Need-with-counted-requires
+with-counted-requires c κs = tt
+
+confirmed-counted-requires : tie.Need-confirmed-counted-requires
+confirmed-counted-requires c κs = tt
+
+returns-5 : tie.Need-returns-5
+unfolding onConfirmed
+returns-5 c =
+    let confirming = granted (c .before .before .before .before .before .before .before .before .before .is-confirming .ensures) (c .before .before .before .before .before .before .before .before .if1 .left) in
+    let own = granted (c .before .before .before .before .before .before .before .own-write .ensures) (c .before .before .before .before .before .before .if2 .left) in
+    let asked = granted (c .before .before .before .before .before .asked-under .ensures) (c .before .before .before .before .if3 .left) in
+    let uncounted = answered (c .before .before .before .is-counted .ensures) (c .before .before .if4 .left) in
+    rw (c .confirmed-counted .ensures, confirming, own, asked, uncounted, c .before .with-counted .ensures)
+
+pub on-confirmed-spec : {M : Type 1} → statement M
+on-confirmed-spec =
+    tie.close
+    (tie.spec
+    is-confirming-requires
+    refused-requires
+    returns
+    own-write-requires
+    refused-requires-2
+    returns-2
+    asked-under-requires
+    refused-requires-3
+    returns-3
+    is-counted-requires
+    refused-requires-4
+    returns-4
+    with-counted-requires
+    confirmed-counted-requires
+    returns-5)

@@ -1,0 +1,49 @@
+-- `delivering::drop_message` meets its contract.
+use Rattle.outcome.proofs.Laws.{dropped-none, dropped-some}
+use Rattle.outcome.specs.Act.{Outcome, handedBack}
+use denote.Ref.{now}
+use mathlib.Core.Path.{_≡_, refl, sym, ap, _∙_}
+use borrow.Author.Needs.{needs}
+use Rattle.delivering.proofs.drop_message.Statement.{statement}
+use Rattle.delivering.proofs.drop_message.Tie as tie
+
+message-requires : tie.Need-message-requires
+message-requires c κs = search needs
+
+enum-known-envelope : tie.Need-enum-known-envelope
+enum-known-envelope c = search needs
+
+enum-told : tie.Need-enum-told
+enum-told c = search needs
+
+refused-requires : tie.Need-refused-requires
+refused-requires c κs = search needs
+
+same-length : tie.Need-same-length
+same-length c = search needs
+
+returns : tie.Need-returns
+returns c = let a = c .before .before .before .before .before .before .args in let e = dropped-none (a .node) (now (a .s)) (a .r) (sym (c .before .before .before .message .ensures) ∙ c .before .enum-told .given .1) in (c .refused .ensures ∙ ap handedBack (sym e), ap (λ (o : Outcome). o .store) (sym e))
+
+drop-message-requires : tie.Need-drop-message-requires
+drop-message-requires c κs = search needs
+
+same-length-2 : tie.Need-same-length-2
+same-length-2 c = search needs
+
+returns-2 : tie.Need-returns-2
+returns-2 c = let a = c .before .before .before .before .before .before .before .before .before .before .args in let e = dropped-some (a .node) (now (a .s)) (a .r) (sym (c .before .before .before .before .before .before .before .message .ensures) ∙ c .before .before .before .before .before .envelope .given .1) in (ap handedBack (sym e), c .before .before .drop-message .ensures ∙ ap (λ (o : Outcome). o .store) (sym e))
+
+pub drop-message-spec : {M : Type 1} → statement M
+drop-message-spec =
+    tie.close
+    (tie.spec
+    message-requires
+    enum-known-envelope
+    enum-told
+    refused-requires
+    same-length
+    returns
+    drop-message-requires
+    same-length-2
+    returns-2)

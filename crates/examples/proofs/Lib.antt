@@ -1,0 +1,5 @@
+pub mod Opened
+pub mod Point
+pub mod Drill
+pub mod Told
+pub mod Holding

@@ -1,0 +1,3 @@
+pub mod Offsets
+pub mod PutBack
+pub mod SetUpLaws

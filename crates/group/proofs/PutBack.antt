@@ -1,0 +1,158 @@
+-- An event at one node by value, and the node put back at its place, is what the protocol says of the whole table.
+use Prim.Native.Nat.{ℕ}
+use mathlib.Core.Path.{_≡_, refl, sym, ap, _∙_}
+use mathlib.Core.Bool.{Bool, true, false, cond, _&&_}
+use mathlib.Core.List.{List}
+use lib.Dec.{ltb}
+use lib.ListN.{set}
+use lib.Seq.{set-getD}
+use Rattle.message.specs.declared.Outgoing.{Outgoing}
+use Rattle.record.specs.declared.Reading.{Reading}
+use Rattle.record.specs.declared.Reading.the-variants.{Found, Fault}
+use Rattle.record.specs.Layout.{rowsOf}
+use Rattle.store.specs.Change.{putEach, countOutgoing, dropIn}
+use Rattle.store.specs.Head.{groupSize}
+use Rattle.store.specs.Records.{rightLength, recordsOf, recordIn, joined, onRecords}
+use Rattle.store.specs.Sound.{soundRecords, freeCount, messageIn, messageAt, surveyOf, survey}
+use Rattle.protocol.specs.Operation as whole
+use Rattle.protocol.specs.Operation.{Result, isRefused, rowItems}
+use Rattle.protocol.specs.Outgoing.{outgoing}
+use Rattle.protocol.specs.Table.{nodeAt, soundTable, noNode}
+use Rattle.protocol.specs.Deliver.{deliverStep}
+use Rattle.protocol.specs.declared.Answer.{Answer}
+use Rattle.protocol.specs.declared.Answer.the-variants as answer
+use Rattle.protocol.specs.Write.{writeStep, retryStep, crashStep, startStep}
+use Rattle.protocol.specs.declared.Event.{Event}
+use Rattle.protocol.specs.declared.Event.the-variants as event
+use Rattle.protocol.specs.declared.Node.{Node}
+use Rattle.protocol.specs.declared.Refusal.{Refusal}
+use Rattle.protocol.specs.declared.Refusal.the-variants.{StoreLength, Unsound, NoNode, NoRoom, NoMessage}
+use Rattle.protocol.specs.declared.Step.{Step}
+use Rattle.outcome.specs.Act as one
+use Rattle.outcome.specs.Act.{Outcome, addresseeOf, placeOf, lookAt}
+use Rattle.outcome.specs.declared.Seen.{Seen}
+use Rattle.group.specs.AtPlace.{putBack, atPlace}
+
+-- a node that is put back as it was changes nothing
+same-node : (table : List Node) (k : ℕ) → set table k (nodeAt table k) ≡ table
+unfolding nodeAt
+same-node table k = set-getD table k noNode
+
+back-cond : (table : List Node) (k : ℕ) (c : Bool) (a b : Outcome) → putBack table k (cond c a b) ≡ cond c (putBack table k a) (putBack table k b)
+back-cond table k true a b = refl
+back-cond table k false a b = refl
+
+module _ (table : List Node) (store : List ℕ) (k : ℕ) where
+  refused-at : (why : Refusal) → putBack table k (one.refuse why (nodeAt table k) store) ≡ whole.refuse why table store
+  unfolding whole.refuse
+  refused-at why i = record { answer = one.refuse why (nodeAt table k) store .answer; table = same-node table k i; store = store }
+
+  module _ (right : rightLength store ≡ true) where
+    changed : (change : List (List ℕ) → List (List ℕ)) → onRecords change store ≡ joined (change (recordsOf store))
+    unfolding onRecords
+    changed change = rw right
+
+    -- what it sends
+    sent-at : (step : Step) (out : List Outgoing) → putBack table k (one.sentBy (nodeAt table k) store (freeCount (recordsOf store)) step out) ≡ whole.sentBy table store (recordsOf store) k step out
+    unfolding one.sentBy whole.sentBy
+    sent-at step out =
+        back-cond table k (ltb (freeCount (recordsOf store)) (countOutgoing out)) _ _
+        ∙ (λ i. cond (ltb (freeCount (recordsOf store)) (countOutgoing out)) (refused-at NoRoom i)
+        (record { answer = step .answer; table = set table k (step .node); store = changed (λ rs. putEach rs out (rowItems (step .node))) i }))
+
+    carried-at : (back : ℕ) (step : Step) → putBack table k (one.carriedOut (nodeAt table k) store (freeCount (recordsOf store)) back step) ≡ whole.carriedOut table store (recordsOf store) k back step
+    unfolding one.carriedOut whole.carriedOut
+    carried-at back step =
+        back-cond table k (isRefused (step .answer)) _ _
+        ∙ (λ i. cond (isRefused (step .answer)) (record { answer = step .answer; table = same-node table k i; store = store })
+        (sent-at step (outgoing (step .node) (step .sends) back) i))
+
+    -- what is seen of a sound store
+    abbrev sound-seen : Seen
+    sound-seen = record { sound = true; n = groupSize (recordsOf store); free = freeCount (recordsOf store); place = k }
+
+    step-at : (decide : Node → Step) → putBack table k (one.atNode (nodeAt table k) store sound-seen k (decide (nodeAt table k))) ≡ whole.atNode decide k table store (recordsOf store)
+    unfolding one.atNode whole.atNode
+    step-at decide =
+        back-cond table k (ltb k (groupSize (recordsOf store))) _ _
+        ∙ (λ i. cond (ltb k (groupSize (recordsOf store))) (carried-at k (decide (nodeAt table k)) i) (refused-at NoNode i))
+
+module _ (table : List Node) (store : List ℕ) (right : rightLength store ≡ true) where
+  dropped-at : (m : Reading) (r : ℕ) → putBack table (addresseeOf m) (one.dropped m (nodeAt table (addresseeOf m)) store r) ≡ whole.dropped m r table store (recordsOf store)
+  unfolding one.dropped whole.dropped addresseeOf
+  dropped-at Fault r = refused-at table store 0 NoMessage
+  dropped-at (Found e) r = λ i. record { answer = answer.Ok; table = same-node table (e .addressee) i; store = changed table store (e .addressee) right (λ rs. dropIn rs (e .addressee) r) i }
+
+  delivered-at : (m : Reading) (r : ℕ) → putBack table (addresseeOf m) (one.delivered m (nodeAt table (addresseeOf m)) store (freeCount (recordsOf store)) r) ≡ whole.delivered m r table store (recordsOf store)
+  unfolding one.delivered whole.delivered addresseeOf
+  delivered-at Fault r = refused-at table store 0 NoMessage
+  delivered-at (Found e) r = carried-at table store (e .addressee) right (e .sender) (deliverStep (nodeAt table (e .addressee)) e (rowsOf (recordIn (recordsOf store) r)))
+
+  found-at : (r : ℕ) → messageAt store r ≡ messageIn (recordsOf store) r
+  unfolding messageAt
+  found-at r = rw right
+
+  sound-at : (e : Event) → putBack table (placeOf e store) (one.onSound e (nodeAt table (placeOf e store)) store (sound-seen table store (placeOf e store) right)) ≡ whole.onSound e table store (recordsOf store)
+  unfolding one.onSound whole.onSound placeOf
+  sound-at (event.Write k tag) = step-at table store k right (λ node. writeStep node tag)
+  sound-at (event.Retry k) = step-at table store k right retryStep
+  sound-at (event.Crash k) = step-at table store k right crashStep
+  sound-at (event.Start k) = step-at table store k right startStep
+  sound-at (event.Drop r) = dropped-at (messageAt store r) r ∙ ap (λ (m : Reading). whole.dropped m r table store (recordsOf store)) (found-at r)
+  sound-at (event.Deliver r) = delivered-at (messageAt store r) r ∙ ap (λ (m : Reading). whole.delivered m r table store (recordsOf store)) (found-at r)
+
+module _ (e : Event) (table : List Node) (store : List ℕ) where
+  abbrev place : ℕ
+  place = placeOf e store
+
+  abbrev node : Node
+  node = nodeAt table place
+
+  -- as the code does it
+  abbrev byNode : Result
+  byNode = atPlace e (soundTable (lookAt e store .n) table) (lookAt e store) table store
+
+  -- a store that is sound, with a table of any kind
+  seen-sound : rightLength store ≡ true → soundRecords (recordsOf store) ≡ true → lookAt e store ≡ record { sound = true; n = groupSize (recordsOf store); free = freeCount (recordsOf store); place = place }
+  unfolding lookAt survey surveyOf
+  seen-sound p q = rw (p, q)
+
+  seen-unsound : rightLength store ≡ true → soundRecords (recordsOf store) ≡ false → lookAt e store ≡ record { sound = false; n = 0; free = 0; place = place }
+  unfolding lookAt survey surveyOf
+  seen-unsound p q = rw (p, q)
+
+  -- what the code does, from what it sees
+  abbrev withSeen : Seen → Result
+  withSeen seen = atPlace e (soundTable (seen .n) table) seen table store
+
+  performed-wrong : rightLength store ≡ false → byNode ≡ whole.perform e table store
+  unfolding atPlace one.acted whole.perform lookAt
+  performed-wrong p = rw p (refused-at table store place StoreLength)
+
+  performed-unsound : rightLength store ≡ true → soundRecords (recordsOf store) ≡ false → byNode ≡ whole.perform e table store
+  unfolding atPlace one.acted whole.perform whole.onRecords
+  performed-unsound p q = ap withSeen (seen-unsound p q) ∙ rw (p, q) (refused-at table store place Unsound)
+
+  performed-sound : rightLength store ≡ true → soundRecords (recordsOf store) ≡ true → byNode ≡ whole.perform e table store
+  unfolding atPlace one.acted whole.perform whole.onRecords
+  performed-sound p q =
+      ap withSeen (seen-sound p q)
+      ∙ rw (p, q) (back-cond table place (soundTable (groupSize (recordsOf store)) table) _ _
+      ∙ (λ i. cond (soundTable (groupSize (recordsOf store)) table) (sound-at table store p e i) (refused-at table store place Unsound i)))
+
+  performed-at : (right sound : Bool) → rightLength store ≡ right → soundRecords (recordsOf store) ≡ sound → byNode ≡ whole.perform e table store
+  performed-at false sound p q = performed-wrong p
+  performed-at true false p q = performed-unsound p q
+  performed-at true true p q = performed-sound p q
+
+  pub performed : byNode ≡ whole.perform e table store
+  performed = performed-at (rightLength store) (soundRecords (recordsOf store)) refl refl
+
+  -- the calls of `group::perform` one after the other, each with what it ensures
+  pub performed-calls : (seen : Seen) (sound : Bool) (r : Answer) (l : List Node) (m : List ℕ) → seen ≡ lookAt e store → sound ≡ soundTable (seen .n) table
+      → (r ≡ atPlace e sound seen table store .answer) × ((l ≡ atPlace e sound seen table store .table) × (m ≡ atPlace e sound seen table store .store))
+      → (r ≡ whole.perform e table store .answer) × ((l ≡ whole.perform e table store .table) × (m ≡ whole.perform e table store .store))
+  performed-calls seen sound r l m e₀ e₁ e₂ =
+      let t : sound ≡ soundTable (lookAt e store .n) table = e₁ ∙ ap (λ (v : Seen). soundTable (v .n) table) e₀ in
+      let p : atPlace e sound seen table store ≡ whole.perform e table store = (λ i. atPlace e (t i) (e₀ i) table store) ∙ performed in
+      (e₂ .0 ∙ ap (λ (o : Result). o .answer) p, (e₂ .1 .0 ∙ ap (λ (o : Result). o .table) p, e₂ .1 .1 ∙ ap (λ (o : Result). o .store) p))

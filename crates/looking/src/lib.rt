@@ -1,0 +1,64 @@
+// What is seen of store and event before the table is read. Everything is proved, no public function has a `requires`,
+// and each gives what one definition of the crate `outcome` says.
+use item::Incarnation;
+use outcome::Seen;
+use protocol::Event;
+use protocol::Node;
+use record::Reading;
+ghost use mathlib.Core.Path.{_≡_};
+ghost use Rattle.protocol.specs.Table.{noNode};
+ghost use Rattle.store.specs.Sound.{messageAt};
+ghost use Rattle.outcome.specs.Act.{addresseeOf, placeOf, lookAt};
+
+// The addressee of a message; 0 where there is none.
+fn addressee(reading: Reading) -> usize
+    ensures { λ r. ⌜ r ≡ addresseeOf reading ⌝ }
+{
+    match reading {
+        Reading::Found(envelope) => envelope.addressee,
+        Reading::Fault => 0,
+    }
+}
+
+// The addressee of the message in record `r`.
+fn addressee_at(s: &[u8], r: u64) -> usize
+    ensures { λ a. ⌜ a ≡ addresseeOf (messageAt (now (s .entry)) r) ⌝ }
+{
+    let reading = store::message(s, r);
+    addressee(reading)
+}
+
+// Whose event it is: the node number given, or the addressee of the message.
+fn place(s: &[u8], event: Event) -> usize
+    ensures { λ r. ⌜ r ≡ placeOf event (now (s .entry)) ⌝ }
+{
+    match event {
+        Event::Write { node, tag: _ } => node as usize,
+        Event::Retry { node } => node as usize,
+        Event::Crash { node } => node as usize,
+        Event::Start { node } => node as usize,
+        Event::Drop { record } => addressee_at(s, record),
+        Event::Deliver { record } => addressee_at(s, record),
+    }
+}
+
+// What is seen of store and event.
+pub fn look(s: &[u8], event: Event) -> Seen
+    ensures { λ r. ⌜ r ≡ lookAt event (now (s .entry)) ⌝ }
+{
+    let survey = survey::of(s);
+    let whose = place(s, event);
+    Seen {
+        sound: survey.sound,
+        n: survey.n,
+        free: survey.free,
+        place: whose,
+    }
+}
+
+// What stands where the table has no node.
+pub fn no_node() -> Node
+    ensures { λ r. ⌜ r ≡ noNode ⌝ }
+{
+    Node::blank(0, 0, Incarnation(0))
+}

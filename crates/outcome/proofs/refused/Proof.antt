@@ -1,0 +1,10 @@
+-- `outcome::refused` meets its contract.
+use mathlib.Core.Path.{refl}
+use Rattle.outcome.proofs.refused.Statement.{statement}
+use Rattle.outcome.proofs.refused.Tie as tie
+
+returns : tie.Need-returns
+returns c = refl
+
+pub refused-spec : {M : Type 1} → statement M
+refused-spec = tie.close (tie.spec returns)

@@ -1,0 +1,35 @@
+// What one event does to its node and to the store: the definitions (specs/Act), and the two structs by which it is told
+// what was seen before and what came of it.
+use protocol::Answer;
+use protocol::Node;
+use protocol::Refusal;
+ghost use mathlib.Core.Path.{_≡_};
+ghost use Rattle.outcome.specs.Act.{refusedWith};
+
+// What is seen of store and event before the table is read.
+pub struct Seen {
+    // Whether the store is sound; of one that is not, the other numbers are 0.
+    pub sound: bool,
+    // The group's size.
+    pub n: usize,
+    // The free records.
+    pub free: usize,
+    // Whose event it is: the node number given, or the addressee of the message. 0 where there is no message.
+    pub place: usize,
+}
+
+// The answer, and the node afterwards.
+pub struct Acted {
+    pub answer: Answer,
+    pub node: Node,
+}
+
+// A refusal: the node as it was.
+pub fn refused(why: Refusal, node: Node) -> Acted
+    ensures { λ r. ⌜ r ≡ refusedWith why node ⌝ }
+{
+    Acted {
+        answer: Answer::Refused(why),
+        node: node,
+    }
+}

@@ -1,0 +1,14 @@
+-- `recovering::has_conflict` meets its contract: one comparison with the lowest marked row.
+use Rattle.protocol.specs.Fetching.{hasConflict}
+use Rattle.recovering.proofs.has_conflict.Statement.{statement}
+use Rattle.recovering.proofs.has_conflict.Tie as tie
+
+lowest-marked-requires : tie.Need-lowest-marked-requires
+lowest-marked-requires c κs = tt
+
+returns : tie.Need-returns
+unfolding hasConflict
+returns c = rw (c .lowest-marked .ensures)
+
+pub has-conflict-spec : {M : Type 1} → statement M
+has-conflict-spec = tie.close (tie.spec lowest-marked-requires returns)

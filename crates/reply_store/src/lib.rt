@@ -1,0 +1,92 @@
+// Delivery of Store to one node by value: a node that is Up stores it and answers Stored. The sender and its
+// incarnation are the envelope's. Everything is proved, no public function has a `requires`, and each gives what one
+// definition of the crate `protocol` says.
+use item::Attempt;
+use item::Incarnation;
+use item::Item;
+use item::Row;
+use item::counters_earlier;
+use message::Message;
+use node::row_of;
+use node::with_row;
+use phase::is_up;
+use protocol::Node;
+use protocol::Refusal;
+use protocol::Sends;
+use protocol::Step;
+use protocol::Verdict;
+use step::ok;
+use step::refused;
+ghost use mathlib.Core.Path.{_≡_};
+ghost use Rattle.protocol.specs.Storing.{storeVerdict, replyStore, onStore};
+
+// What the row says to an item stored under these counters (refusals 12, 13, 10).
+fn store_verdict(row: Row, incarnation: Incarnation, attempt: Attempt, item: Item) -> Verdict
+    ensures { λ r. ⌜ r ≡ storeVerdict row incarnation attempt item ⌝ }
+{
+    if item.ranks_below(row.item) {
+        return Verdict::Refuse(Refusal::LowerRank);
+    }
+    if row.item.ranks_below(item) {
+        return Verdict::Take;
+    }
+    if !item.same(row.item) {
+        return Verdict::Refuse(Refusal::OtherTag);
+    }
+    if counters_earlier(incarnation, attempt, row.incarnation, row.attempt) {
+        return Verdict::Refuse(Refusal::Stale);
+    }
+    Verdict::Take
+}
+
+// Where the verdict is to take it, the sender's row takes the item with these counters, and Stored goes back.
+fn reply_store(
+    verdict: Verdict,
+    node: Node,
+    sender: usize,
+    incarnation: Incarnation,
+    attempt: Attempt,
+    item: Item,
+) -> Step
+    ensures { λ r. ⌜ r ≡ replyStore verdict node sender incarnation attempt item ⌝ }
+{
+    match verdict {
+        Verdict::Refuse(why) => refused(node, why),
+        Verdict::Take => {
+            let row = Row {
+                item: item,
+                incarnation: incarnation,
+                attempt: attempt,
+                marked: false,
+            };
+            let next = with_row(node, sender, row);
+            ok(
+                next,
+                Sends::Back(Message::Stored {
+                    other: incarnation,
+                    attempt: attempt,
+                    item: item,
+                }),
+            )
+        }
+    }
+}
+
+// Store: refused with 9, 12, 13 or 10; otherwise the sender's row takes the item, and Stored goes back.
+pub fn on_store(
+    node: Node,
+    sender: usize,
+    incarnation: Incarnation,
+    attempt: Attempt,
+    item: Item,
+) -> Step
+    ensures { λ r. ⌜ r ≡ onStore node sender incarnation attempt item ⌝ }
+{
+    let phase = node.phase;
+    if !is_up(phase) {
+        return refused(node, Refusal::NotTaken);
+    }
+    let row = row_of(node, sender);
+    let verdict = store_verdict(row, incarnation, attempt, item);
+    reply_store(verdict, node, sender, incarnation, attempt, item)
+}

@@ -1,0 +1,6 @@
+pub mod Bytes
+pub mod Messages
+pub mod Going
+pub mod Keeps
+pub mod Numbers
+pub mod Runs
