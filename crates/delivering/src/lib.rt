@@ -19,7 +19,7 @@ pub fn drop_message(s: &mut [u8], node: Node, r: u64) -> Acted
     let Reading::Found(envelope) = store::message(s, r) else {
         return refused(Refusal::NoMessage, node);
     };
-    mail::drop_message(s, envelope.addressee, r);
+    dropping::drop_message(s, envelope.addressee, r);
     Acted {
         answer: Answer::Ok,
         node: node,

@@ -43,7 +43,7 @@ fn prepare(s: &mut [u8], n: usize, nodes: usize) -> Prepared
     if s.len() != store::LENGTH {
         return not_prepared(Refusal::StoreLength);
     }
-    mail::set_up(s, n);
+    setup::set_up(s, n);
     Prepared {
         answer: Answer::Ok,
         fresh: n,

@@ -1,10 +1,10 @@
 -- A turn of each loop over the rows of a record, and its first and last state.
 use Prim.Native.Nat.{ℕ, suc, _+_, _*_, _≤_, _<_}
 use mathlib.Core.Path.{_≡_, sym, ap, _∙_}
-use mathlib.Core.List.{List, _++_, map, append-nil}
+use mathlib.Core.List.{List, _++_, append-nil}
 use native.Mathlib.Omega.{arith}
 use native.Mathlib.Numerals.{add-one}
-use lib.ListN.{length, take, drop, getD, set, length-map, take-append-drop, drop-of-length-le}
+use lib.ListN.{length, take, drop, getD, set, take-append-drop, drop-of-length-le}
 use lib.Seq.{length-take-le, set-at, drop-cons, append-snoc, getD-set-same, getD-set-other, ext-getD}
 use Rattle.item.specs.Maxima.{maxNodes}
 use Rattle.item.specs.Item.{zeroItem}
@@ -52,8 +52,3 @@ pub passed-all : (r : List ℕ) (items : List Item) → length items ≡ maxNode
 unfolding Passed rowsOf
 passed-all r items l p =
     ext-getD zeroItem items (rowsOf r) (l ∙ sym (length-items maxNodes r rowsAt)) (λ k h. p k (omega arith) ∙ sym (getD-items maxNodes r rowsAt k (omega arith)))
-
--- ---- arrays of items
-
-pub length-mapped : {X Y : Type 0} (f : X → Y) (l : List X) (n : ℕ) → length (map f l) ≡ n → length l ≡ n
-length-mapped f l n p = sym (length-map l f) ∙ p

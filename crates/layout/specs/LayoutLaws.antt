@@ -1,11 +1,11 @@
 -- Laws of the layout: how long each group of bytes is, and that groups written one after the other are one.
 use Prim.Native.Nat.{ℕ, zero, suc, _+_, _-_, _*_, _≤_, _<_}
 use mathlib.Core.Path.{_≡_, refl, sym, ap, _∙_}
-use mathlib.Core.List.{List, [], _∷_, _++_, append-assoc, append-nil}
+use mathlib.Core.List.{List, [], _∷_, _++_, map, append-assoc, append-nil}
 use native.Mathlib.Omega.{arith}
 use native.Mathlib.Numerals.{add-one}
 use native.Mathlib.Nat.{suc-mul, not-suc-le-zero, le-of-suc-le-suc}
-use lib.ListN.{length, take, getD, set, length-append}
+use lib.ListN.{length, take, getD, set, length-append, length-map}
 use lib.Seq.{length-take-le}
 use Rattle.item.specs.Maxima.{maxNodes, tagSize}
 use Rattle.item.specs.Item.{zeroItem}
@@ -16,6 +16,10 @@ use Rattle.endian.specs.Number.{bytes, withNumber}
 use Rattle.endian.specs.NumberLaws.{length-bytes}
 use Rattle.kinds.specs.declared.Fields.{Fields}
 use Rattle.layout.specs.Layout.{recordSize, nextAt, kindAt, addressAt, incarnationAt, otherAt, attemptAt, itemAt, rowsAt, indexSize, rowSize, fieldsSize, itemBytes, addressByte, fieldBytes, rowsBytes, padded, itemIn, itemsIn, layoutBytes}
+
+-- the length of an array of structs
+pub length-mapped : {X Y : Type 0} (f : X → Y) (l : List X) (n : ℕ) → length (map f l) ≡ n → length l ≡ n
+length-mapped f l n p = sym (length-map l f) ∙ p
 
 -- the last row ends where the record does
 pub rows-fill : rowsAt + maxNodes * rowSize ≡ recordSize

@@ -1,6 +1,6 @@
-// The bytes of one record, as a slice of its own: where each field stands, read and written. Everything is proved, no
-// public function has a `requires`, and each gives what one definition of specs/ says. In a slice that is too short a
-// field reads as 0, and a record is not written.
+// The bytes of one record, as a slice of its own: where each field stands, and read. Everything is proved, no public
+// function has a `requires`, and each gives what one definition of specs/ says. In a slice that is too short a field
+// reads as 0. The same bytes are written in the crate `encoding`.
 use item::Attempt;
 use item::Incarnation;
 use item::Index;
@@ -9,11 +9,10 @@ use item::Tag;
 use kinds::Fields;
 use message::Message;
 ghost use mathlib.Core.Path.{_≡_};
-ghost use Prim.Native.Nat.{_+_, _*_, _≤_};
-ghost use lib.ListN.{length, getD, take};
+ghost use Prim.Native.Nat.{_≤_};
+ghost use lib.ListN.{getD, take};
 ghost use Rattle.item.specs.Maxima.{maxNodes};
-ghost use Rattle.endian.specs.Part.{withPart};
-ghost use Rattle.layout.specs.Layout.{recordSize, nextAt, kindAt, rowsAt, fieldsSize, rowSize, itemBytes, addressByte, fieldBytes, rowsBytes, layoutBytes, padded, itemIn, fieldsIn, rowsOf, heldRows};
+ghost use Rattle.layout.specs.Layout.{recordSize, padded, itemIn, fieldsIn, rowsOf, heldRows};
 
 // The bytes of a record.
 pub const SIZE: usize = 272;
@@ -101,45 +100,6 @@ pub fn read_rows(r: &[u8]) -> [Item; item::MAX_NODES]
     items
 }
 
-fn write_item(r: &mut [u8], at: usize, item: Item)
-    requires { ⌜ at + rowSize ≤ length (now r) ⌝ }
-    ensures { λ _. ⌜ now (r .exit) ≡ withPart rowSize (now (r .entry)) at (itemBytes item) ⌝ }
-{
-    endian::write_u64(r, at, item.index.0);
-    endian::write_u64(r, at + INDEX_SIZE, item.tag.0);
-}
-
-// Sender and addressee in one byte, half for each.
-fn address_byte(sender: usize, addressee: usize) -> u8
-    ensures { λ b. ⌜ b ≡ addressByte sender addressee ⌝ }
-{
-    (sender % 16 * 16 + addressee % 16) as u8
-}
-
-fn write_fields(r: &mut [u8], fields: Fields)
-    requires { ⌜ recordSize ≤ length (now r) ⌝ }
-    ensures { λ _. ⌜ now (r .exit) ≡ withPart fieldsSize (now (r .entry)) kindAt (fieldBytes fields) ⌝ }
-{
-    r[KIND_AT] = fields.kind;
-    r[ADDRESS_AT] = address_byte(fields.sender, fields.addressee);
-    endian::write_u32(r, INCARNATION_AT, fields.incarnation.0);
-    endian::write_u32(r, OTHER_AT, fields.other.0);
-    endian::write_u32(r, ATTEMPT_AT, fields.attempt.0);
-    write_item(r, ITEM_AT, fields.item);
-}
-
-fn write_rows(r: &mut [u8], rows: [Item; item::MAX_NODES])
-    requires { ⌜ recordSize ≤ length (now r) ⌝ }
-    ensures { λ _. ⌜ now (r .exit) ≡ withPart (maxNodes * rowSize) (now (r .entry)) rowsAt (rowsBytes rows) ⌝ }
-{
-    let mut j = 0;
-    while j < item::MAX_NODES {
-        let row = rows[j];
-        write_item(r, ROWS_AT + j * ROW_SIZE, row);
-        j += 1;
-    }
-}
-
 // The first `held` rows, and zero items after them.
 fn padded_rows(rows: [Item; item::MAX_NODES], held: usize) -> [Item; item::MAX_NODES]
     requires { ⌜ held ≤ maxNodes ⌝ }
@@ -163,16 +123,4 @@ pub fn held_rows(
     ensures { λ r. ⌜ r ≡ heldRows message n rows ⌝ }
 {
     padded_rows(rows, kinds::rows_held(message, n))
-}
-
-// The record becomes next, the fields and the rows; a slice shorter than a record stays.
-pub fn write_record(r: &mut [u8], next: u16, fields: Fields, rows: [Item; item::MAX_NODES])
-    ensures { λ _. ⌜ now (r .exit) ≡ withPart recordSize (now (r .entry)) nextAt (layoutBytes next fields rows) ⌝ }
-{
-    if r.len() < SIZE {
-        return;
-    }
-    endian::write_u16(r, NEXT_AT, next);
-    write_fields(r, fields);
-    write_rows(r, rows);
 }

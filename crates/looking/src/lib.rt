@@ -5,7 +5,6 @@ use outcome::Seen;
 use protocol::Event;
 use protocol::Node;
 use record::Reading;
-use store::Survey;
 ghost use mathlib.Core.Path.{_≡_};
 ghost use Rattle.protocol.specs.Table.{noNode};
 ghost use Rattle.store.specs.Sound.{messageAt};
@@ -47,7 +46,7 @@ fn place(s: &[u8], event: Event) -> usize
 pub fn look(s: &[u8], event: Event) -> Seen
     ensures { λ r. ⌜ r ≡ lookAt event (now (s .entry)) ⌝ }
 {
-    let survey = Survey::of(s);
+    let survey = survey::of(s);
     let whose = place(s, event);
     Seen {
         sound: survey.sound,

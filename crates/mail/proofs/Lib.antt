@@ -1,3 +1,1 @@
-pub mod Search
-pub mod Linked
 pub mod Each

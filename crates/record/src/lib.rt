@@ -1,6 +1,7 @@
-// One record of the message store: its bytes, read and written at any place of any slice. Everything is proved, no
+// One record of the message store: its message, read and written at any place of any slice. Everything is proved, no
 // public function has a `requires`, and each gives what one definition of specs/ says. A record that does not lie
-// whole within the slice reads as nothing and is not written, whatever number is handed in.
+// whole within the slice reads as nothing and is not written, whatever number is handed in. Links between records are
+// the crate `links`.
 use item::Item;
 use kinds::Known;
 use message::Envelope;
@@ -8,8 +9,8 @@ ghost use mathlib.Core.Path.{_≡_};
 ghost use Prim.Native.Nat.{_≤_};
 ghost use lib.ListN.{length, drop};
 ghost use Rattle.endian.specs.Zero.{allZero};
-ghost use Rattle.record.specs.Layout.{recordSize, recordOf, withRecord, nextOf, rowsOf};
-ghost use Rattle.record.specs.Record.{readRecord, recordBytes, withNext, noRecord, zeroAfterNext};
+ghost use Rattle.record.specs.Layout.{recordSize, recordOf, withRecord, rowsOf};
+ghost use Rattle.record.specs.Record.{readRecord, recordBytes};
 ghost use Rattle.record.specs.RoundTrip.{ReadsBack, WritesBack, Differ};
 
 // The bytes of a record.
@@ -93,51 +94,7 @@ pub fn write(
     let message = envelope.message;
     let held = layout::held_rows(message, n, rows);
     let fields = kinds::fields_of(envelope);
-    layout::write_record(&mut s[a..a + SIZE], next, fields, held);
-}
-
-// The record after record `i` on its chain, 0 at the end.
-pub fn next(s: &[u8], i: usize) -> usize
-    ensures { λ r. ⌜ r ≡ nextOf (recordOf (now (s .entry)) i) ⌝ }
-{
-    if s.len() / SIZE <= i {
-        return 0;
-    }
-    let a = i * SIZE;
-    endian::read_u16(&s[a..a + SIZE], layout::NEXT_AT) as usize
-}
-
-// `next` comes after record `i`; no other byte changes.
-pub fn set_next(s: &mut [u8], i: usize, next: u16)
-    ensures { λ _. ⌜ now (s .exit) ≡ withRecord (now (s .entry)) i (withNext (recordOf (now (s .entry)) i) next) ⌝ }
-{
-    if s.len() / SIZE <= i {
-        return;
-    }
-    let a = i * SIZE;
-    endian::write_u16(&mut s[a..a + SIZE], layout::NEXT_AT, next);
-}
-
-// Record `i` becomes zeros.
-pub fn clear(s: &mut [u8], i: usize)
-    ensures { λ _. ⌜ now (s .exit) ≡ withRecord (now (s .entry)) i noRecord ⌝ }
-{
-    if s.len() / SIZE <= i {
-        return;
-    }
-    let a = i * SIZE;
-    endian::clear(&mut s[a..a + SIZE]);
-}
-
-// Whether record `i` is zero after next, as a free one is.
-pub fn zero_after_next(s: &[u8], i: usize) -> bool
-    ensures { λ r. ⌜ r ≡ zeroAfterNext (recordOf (now (s .entry)) i) ⌝ }
-{
-    if s.len() / SIZE <= i {
-        return false;
-    }
-    let a = i * SIZE;
-    zero_from(&s[a..a + SIZE], layout::KIND_AT)
+    encoding::write_record(&mut s[a..a + SIZE], next, fields, held);
 }
 
 // Reading what was written gives it back: the message, its rows with zero items after them, and next.

@@ -1,6 +1,6 @@
 -- Lent bytes against records: a record read or written at its place in the bytes is the record of the list, and so are
 -- the head's fields. One law for each, cited wherever code over bytes meets a definition over records.
-use Prim.Native.Nat.{ℕ, zero, suc, _+_, _-_, _*_, _%_, _≤_, _<_}
+use Prim.Native.Nat.{ℕ, zero, suc, _+_, _-_, _*_, _≤_, _<_}
 use mathlib.Core.Path.{_≡_, refl, sym, ap, _∙_}
 use mathlib.Core.Logic.{_≢_}
 use mathlib.Core.Bool.{Bool, true, false, cond}
@@ -10,19 +10,23 @@ use borrow.Author.Tests.{eq-eqb, ne-eqb}
 use lib.Dec.{eqb}
 use lib.ListN.{length, take, drop, getD, set, length-set, length-drop, drop-of-length-le, take-append-drop, List·getD-eq-default}
 use lib.Seq.{getD-take, take-take, set-out, set-append-left, length-take-le, take-all, drop-drop}
-use Rattle.endian.specs.Part.{part, whole, withPart}
+use Rattle.endian.specs.Part.{part, whole}
 use Rattle.endian.specs.PartLaws.{by-order, take-of-drop, part-is, with-is, with-none}
-use Rattle.endian.specs.Number.{value, bytes, numberAt, withNumber}
-use Rattle.endian.specs.NumberLaws.{bytes-low, number-none, length-with-number}
+use Rattle.endian.specs.Number.{value, numberAt, withNumber}
+use Rattle.endian.specs.NumberLaws.{number-none, length-with-number}
 use Rattle.endian.specs.Zero.{allZero}
+use Rattle.endian.specs.ZeroLaws.{length-zeros}
 use Rattle.record.specs.Chunk.{cut, chunk, withChunk}
 use Rattle.record.specs.ChunkLaws.{cut-chunk, cut-with, length-with-chunk}
-use Rattle.record.specs.Layout.{recordSize, recordOf, withRecord}
+use Rattle.record.specs.Layout.{recordSize, nextAt, recordOf, withRecord, nextOf}
 use Rattle.record.specs.RecordLaws.{record-none, length-record-of, with-record-none}
-use Rattle.record.specs.Record.{withNext}
+use Rattle.record.specs.Record.{withNext, noRecord}
 use Rattle.store.specs.Records.{recordCount, rightLength, recordsOf, recordIn, joined, onRecords}
 use Rattle.store.specs.Joined.{records-count, joined-records}
-use Rattle.store.specs.Head.{spareAt, inboxAt, groupSize, headZero}
+use Rattle.store.specs.Head.{freeAt, spareAt, inboxAt, groupSize, headZero, withFirstFree, withFirstOf}
+use Rattle.store.specs.Chain.{nextIn, walked, walk}
+use Rattle.store.specs.Sound.{belongsOn, followed}
+use Rattle.store.specs.declared.chain.Chain.{Chain}
 use Rattle.store.specs.Change.{withNextIn}
 
 -- ---- records
@@ -48,6 +52,17 @@ module _ (s : List ℕ) (long : length s ≡ recordCount * recordSize) where
       (λ h. cut-with recordSize recordCount s i r (lr h) h long)
       (λ h. ap recordsOf (with-record-none s i r (omega arith)) ∙ sym (set-out (recordsOf s) i r (omega (arith, records-count s))))
 
+  -- what comes after record i
+  pub next-in : (i : ℕ) → nextOf (recordOf s i) ≡ nextIn (recordsOf s) i
+  unfolding nextIn
+  next-in i = ap nextOf (sym (record-in i))
+
+  -- a chain followed in bytes of the right length
+  pub followed-in : (chain : Chain) (n first : ℕ) (earlier : List Bool)
+      → followed chain n s first earlier ≡ walk (belongsOn chain n) recordCount (recordsOf s) first earlier 0
+  unfolding followed
+  followed-in chain n first earlier = rw right
+
   length-in : (i : ℕ) → i < recordCount → length (recordOf s i) ≡ recordSize
   length-in i h = length-record-of s i (omega arith)
 
@@ -63,9 +78,28 @@ module _ (s : List ℕ) (long : length s ≡ recordCount * recordSize) where
       records-with 0 (set (recordOf s 0) at v) (λ h. length-set (recordOf s 0) at v ∙ length-in 0 h)
       ∙ ap (λ (r : List ℕ). set (recordsOf s) 0 (set r at v)) (sym (record-in 0))
 
+  pub records-free : (i : ℕ) → recordsOf (withRecord s 0 (withNumber 2 (recordOf s 0) freeAt i)) ≡ withFirstFree (recordsOf s) i
+  unfolding withFirstFree
+  records-free i = records-number 0 freeAt i
+
+  pub records-first : (k i : ℕ) → recordsOf (withRecord s 0 (withNumber 2 (recordOf s 0) (inboxAt k) i)) ≡ withFirstOf (recordsOf s) k i
+  unfolding withFirstOf
+  records-first k i = records-number 0 (inboxAt k) i
+
   pub records-next : (i next : ℕ) → recordsOf (withRecord s i (withNext (recordOf s i) next)) ≡ withNextIn (recordsOf s) i next
   unfolding withNext withNextIn
-  records-next i next = records-number i 0 next
+  records-next i next = records-number i nextAt next
+
+  -- record i cleared
+  pub records-clear : (i : ℕ) → recordsOf (withRecord s i noRecord) ≡ set (recordsOf s) i noRecord
+  unfolding noRecord
+  records-clear i = records-with i noRecord (λ h. length-zeros recordSize)
+
+-- and in others
+pub followed-none : (chain : Chain) (n : ℕ) (s : List ℕ) (first : ℕ) (earlier : List Bool) → length s ≢ recordCount * recordSize
+    → followed chain n s first earlier ≡ walked false earlier 0
+unfolding followed rightLength
+followed-none chain n s first earlier d = rw (ne-eqb (length s) (recordCount * recordSize) d)
 
 -- a record that is written as it is
 pub with-own : (s : List ℕ) (i : ℕ) → withRecord s i (recordOf s i) ≡ s
@@ -134,15 +168,6 @@ head-set s at v h l =
     ∙ set-append-left (take recordSize s) (drop recordSize s) at v (omega arith)
     ∙ ap (λ (r : List ℕ). set r at v ++ drop recordSize s) (sym (part-is recordSize s 0 (omega arith)))
     ∙ sym (with-is recordSize s 0 (set (part recordSize s 0) at v) (omega arith))
-
--- of a number only its two lowest bytes are written
-pub with-low : (r : List ℕ) (at v : ℕ) → withNumber 2 r at (v % 65536) ≡ withNumber 2 r at v
-unfolding withNumber
-with-low r at v = ap (withPart 2 r at) (bytes-low 2 v)
-
-pub next-low : (r : List ℕ) (v : ℕ) → withNext r (v % 65536) ≡ withNext r v
-unfolding withNext
-next-low r v = with-low r 0 v
 
 -- ---- a change of the records, made in the bytes
 

@@ -11,9 +11,9 @@ use Rattle.message.specs.declared.Envelope.{Envelope}
 use Rattle.record.specs.Record.{readRecord, zeroAfterNext}
 use Rattle.record.specs.declared.Reading.{Reading}
 use Rattle.record.specs.declared.Reading.the-variants.{Found, Fault}
-use Rattle.store.specs.Records.{rightLength, recordsOf, recordIn}
+use Rattle.store.specs.Records.{recordCount, rightLength, recordsOf, recordIn}
 use Rattle.store.specs.Head.{firstFree, groupSize, firstOf, headZero}
-use Rattle.store.specs.Chain.{walk}
+use Rattle.store.specs.Chain.{walked, walk}
 use Rattle.store.specs.declared.Survey.{Survey}
 use Rattle.store.specs.declared.chain.Chain.{Chain}
 use Rattle.store.specs.declared.chain.Chain.the-variants.{Free, Inbox}
@@ -32,6 +32,11 @@ belongsTo n owner r = addressedTo n owner (readRecord n r)
 unfoldable pub belongsOn : Chain → ℕ → List ℕ → Bool
 belongsOn Free n r = zeroAfterNext r
 belongsOn (Inbox owner) n r = belongsTo n owner r
+
+-- a chain of bytes that may be no store: in such bytes there is none
+unfoldable pub followed : Chain → ℕ → List ℕ → ℕ → List Bool → Walked
+followed chain n s first earlier =
+    cond (rightLength s) (walk (belongsOn chain n) recordCount (recordsOf s) first earlier 0) (walked false earlier 0)
 
 -- the inboxes of the nodes from k on, `left` of them, one after the other
 unfoldable pub walkInboxes : ℕ → ℕ → List (List ℕ) → ℕ → Walked → Walked

@@ -1,26 +1,26 @@
 // The head of a store: record 0. Its fields are read and changed only here. A head that does not lie whole within the
 // slice is not changed.
 ghost use mathlib.Core.Path.{_≡_};
-ghost use Prim.Native.Nat.{_*_, _%_};
-ghost use lib.ListN.{length, set};
+ghost use Prim.Native.Nat.{_%_};
+ghost use lib.ListN.{set};
 ghost use Rattle.endian.specs.Number.{withNumber};
-ghost use Rattle.record.specs.Layout.{recordSize, recordOf, withRecord};
-ghost use Rattle.store.specs.Records.{recordCount, recordsOf};
-ghost use Rattle.store.specs.Head.{freeAt, sizeAt, inboxAt, firstFree, groupSize, firstOf, headZero};
+ghost use Rattle.record.specs.Layout.{recordOf, withRecord};
+ghost use Rattle.store.specs.Records.{recordsOf};
+ghost use Rattle.store.specs.Head.{freeAt, sizeAt, inboxAt, firstFree, groupSize, firstOf};
 
 // Where each field begins.
 const FREE_AT: usize = 0;
 
 const SIZE_AT: usize = 2;
 
-const SPARE_AT: usize = 3;
+pub const SPARE_AT: usize = 3;
 
-const INBOXES_AT: usize = 4;
+pub const INBOXES_AT: usize = 4;
 
 // The bytes of each node's first inbox record, and how many of them the head has place for.
-const INBOX_SIZE: usize = 2;
+pub const INBOX_SIZE: usize = 2;
 
-const INBOXES: usize = (record::SIZE - INBOXES_AT) / INBOX_SIZE;
+pub const INBOXES: usize = (record::SIZE - INBOXES_AT) / INBOX_SIZE;
 
 fn wide(x: u8) -> usize
     ensures { λ r. ⌜ r ≡ x ⌝ }
@@ -53,22 +53,6 @@ pub fn first_of(s: &[u8], k: usize) -> usize
         return 0;
     }
     endian::read_u16(s, INBOXES_AT + k * INBOX_SIZE) as usize
-}
-
-// Whether the head is zero where no field of a group of its size stands.
-pub(crate) fn head_zero(s: &[u8]) -> bool
-    requires { ⌜ length (now s) ≡ recordCount * recordSize ⌝ }
-    ensures { λ r. ⌜ r ≡ headZero (recordsOf (now (s .entry))) ⌝ }
-{
-    if s[SPARE_AT] != 0 {
-        return false;
-    }
-    let n = group_size(s);
-    if INBOXES <= n {
-        return true;
-    }
-    let from = INBOXES_AT + n * INBOX_SIZE;
-    endian::is_zero(&s[from..record::SIZE])
 }
 
 // `i` becomes the first free record.

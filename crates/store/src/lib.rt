@@ -1,13 +1,13 @@
-// The message store over lent bytes: its head, what one pass over it finds, and the message in a record. Everything
-// is proved, no public function has a `requires`, and each gives what one definition of specs/ says. Whatever bytes
-// come, every call ends and stays inside the slice. How a store is changed is the crate `mail`.
-mod chain;
+// The message store over lent bytes: its definitions and their laws, its head, and the message in a record. Everything is
+// proved, no public function has a `requires`, and each gives what one definition of specs/ says. Whatever bytes come,
+// every call ends and stays inside the slice. Soundness is the crates `walk` and `survey`, a change the crates `putting`,
+// `dropping` and `setup`.
+pub mod chain;
 pub mod head;
-mod sound;
 
 use record::Reading;
 ghost use mathlib.Core.Path.{_≡_};
-ghost use Rattle.store.specs.Sound.{survey, unsound, messageAt};
+ghost use Rattle.store.specs.Sound.{messageAt};
 
 // The records of a store, the head included.
 pub const RECORDS: usize = 240;
@@ -32,29 +32,6 @@ pub struct Survey {
     pub n: usize,
     // The free records.
     pub free: usize,
-}
-
-impl Survey {
-    // Whether these bytes are a sound store, and if so the size of its group and how many records are free.
-    pub fn of(s: &[u8]) -> Survey
-        ensures { λ r. ⌜ r ≡ survey (now (s .entry)) ⌝ }
-    {
-        if s.len() != LENGTH {
-            return Survey::unsound();
-        }
-        sound::survey_records(s)
-    }
-
-    // What is found of bytes that are not a sound store.
-    pub fn unsound() -> Survey
-        ensures { λ r. ⌜ r ≡ unsound ⌝ }
-    {
-        Survey {
-            sound: false,
-            n: 0,
-            free: 0,
-        }
-    }
 }
 
 // The message in record `r`, or a fault where there is none. Of a sound store exactly the records on inbox chains have

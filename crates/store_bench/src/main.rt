@@ -8,7 +8,6 @@ use item::Tag;
 use libc::STDOUT_FILENO;
 use message::Envelope;
 use message::Message;
-use store::Survey;
 
 const NODES: usize = item::MAX_NODES;
 
@@ -34,7 +33,7 @@ fn fill(s: &mut [u8], many: usize) {
                 },
             },
         };
-        mail::put(s, envelope, [Item::zero(); item::MAX_NODES]);
+        putting::put(s, envelope, [Item::zero(); item::MAX_NODES]);
         left -= 1;
     }
 }
@@ -44,7 +43,7 @@ fn survey(s: &[u8]) -> usize {
     let mut sound: usize = 0;
     let mut left = TURNS;
     while 0 < left {
-        let found = Survey::of(s);
+        let found = survey::of(s);
         if found.sound {
             sound = std::num::wrapping_add_usize(sound, 1);
         }
@@ -61,7 +60,7 @@ fn print(name: &[u8], sound: usize) {
 
 fn main() {
     let mut bytes = [0u8; 65280];
-    mail::set_up(&mut bytes, NODES);
+    setup::set_up(&mut bytes, NODES);
     print(b"empty ", survey(&bytes));
     fill(&mut bytes, HALF);
     print(b"half full ", survey(&bytes));

@@ -8,7 +8,6 @@ use item::Tag;
 use libc::STDOUT_FILENO;
 use message::Envelope;
 use message::Message;
-use store::Survey;
 
 // The group.
 const NODES: usize = 3;
@@ -34,7 +33,7 @@ fn put(s: &mut [u8], sender: usize, addressee: usize, message: Message) {
         incarnation: Incarnation(1),
         message: message,
     };
-    mail::put(s, envelope, [Item::zero(); item::MAX_NODES]);
+    putting::put(s, envelope, [Item::zero(); item::MAX_NODES]);
 }
 
 // Inbox 1 has records 1 and 3, inbox 2 has record 2, inbox 0 is empty, and records 4 to 239 are free.
@@ -44,7 +43,7 @@ fn fill(s: &mut [u8]) {
         tag: Tag(65),
     };
     let attempt = Attempt(1);
-    mail::set_up(s, NODES);
+    setup::set_up(s, NODES);
     put(s, 0, 1, Message::Store { attempt, item });
     put(s, 0, 2, Message::Fetch);
     put(s, 2, 1, Message::Fetch);
@@ -53,7 +52,7 @@ fn fill(s: &mut [u8]) {
 // The line of one store.
 fn print(s: &[u8], name: &[u8]) {
     io::write_all(STDOUT_FILENO, name);
-    let found = Survey::of(s);
+    let found = survey::of(s);
     if !found.sound {
         io::write_all(STDOUT_FILENO, b": unsound\n");
         return;
@@ -66,9 +65,9 @@ fn print(s: &[u8], name: &[u8]) {
 }
 
 // A store with messages, and `next` after record `i`.
-fn print_linked(s: &mut [u8], name: &[u8], i: usize, next: u16) {
+fn print_linked(s: &mut [u8], name: &[u8], i: usize, next: usize) {
     fill(s);
-    record::set_next(s, i, next);
+    links::set_next(s, i, next);
     print(s, name);
 }
 
@@ -123,7 +122,7 @@ fn print_addresses(s: &mut [u8]) {
 fn main() {
     let mut bytes = [0u8; 65280];
     print(&bytes, b"zeros");
-    mail::set_up(&mut bytes, NODES);
+    setup::set_up(&mut bytes, NODES);
     print(&bytes, b"set up");
     fill(&mut bytes);
     print(&bytes, b"with messages");
@@ -133,6 +132,6 @@ fn main() {
     print_unused(&mut bytes);
     print_addresses(&mut bytes);
     fill(&mut bytes);
-    mail::drop_message(&mut bytes, 1, 1);
+    dropping::drop_message(&mut bytes, 1, 1);
     print(&bytes, b"one message dropped");
 }

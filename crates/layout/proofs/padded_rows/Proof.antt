@@ -1,5 +1,6 @@
 -- `layout::padded_rows` meets its contract. The invariant: the rows passed are padded, the others as they were.
-use Rattle.layout.proofs.Turns.{padded-start, padded-turn, padded-end, length-mapped}
+use Rattle.layout.proofs.Turns.{padded-start, padded-turn, padded-end}
+use Rattle.layout.specs.LayoutLaws.{length-mapped}
 use Rattle.layout.specs.Layout.{padded}
 use lib.Seq.{length-take-le}
 use lib.ListN.{length, take, drop, length-set}

@@ -1,14 +1,16 @@
 -- `record::read_record` meets its contract: the message of the fields, unless a byte after its rows is not 0.
-use lib.ListN.{length}
+use lib.ListN.{length, drop}
 use native.Mathlib.Omega.{arith}
-use mathlib.Core.Path.{sym, _∙_}
+use mathlib.Core.Path.{sym, ap, _∙_}
 use denote.Ref.{now}
 use Rattle.item.specs.Tests.{refuted, granted}
 use borrow.Author.Tests.{eq-eqb}
 use Rattle.item.specs.Maxima.{maxNodes}
-use Prim.Native.Nat.{_≤_}
+use Prim.Native.Nat.{ℕ, _+_, _*_, _≤_}
 use Rattle.kinds.specs.KindLaws.{rows-held-most}
-use Rattle.record.specs.RecordLaws.{read-found}
+use Rattle.record.specs.RecordLaws.{read-found, read-stray}
+use Rattle.endian.specs.Zero.{allZero}
+use Rattle.layout.specs.Layout.{rowsAt, rowSize}
 use Rattle.record.specs.Record.{readRecord, readAs, zeroAfterRows}
 use borrow.Author.Needs.{needs}
 use Rattle.record.proofs.read_record.Statement.{statement}
@@ -43,12 +45,26 @@ zero-from-requires : tie.Need-zero-from-requires
 zero-from-requires c κs = let h : c .rows-held .result ≤ maxNodes = rw (c .rows-held .ensures) (rows-held-most _ _) in omega (arith, c .before .before .before .before .before .before .before .pre)
 
 returns-2 : tie.Need-returns-2
-unfolding readRecord readAs zeroAfterRows
-returns-2 c = let a = c .before .before .before .before .before .before .before .before .before in rw (eq-eqb (length (now (a .args .r))) 272 (a .pre), ← c .before .before .before .before .before .before .before .read-fields .ensures, ← c .before .before .before .before .before .before .message-of .ensures, c .before .before .before .before .message .given .1, ← c .before .before .rows-held .ensures, refuted (c .before .zero-from .ensures) (c .if1 .taken))
+unfolding zeroAfterRows
+returns-2 c =
+    let a = c .before .before .before .before .before .before .before .before .before in
+    let r = now (a .args .r) in
+    let f = c .before .before .before .before .before .before .before .read-fields in
+    let m = c .before .before .before .before .message in
+    let e = sym (c .before .before .before .before .before .before .message-of .ensures) ∙ m .given .1 in
+    let h = ap (λ (k : ℕ). allZero (drop (rowsAt + k * rowSize) r)) (sym (c .before .before .rows-held .ensures)) in
+    sym (read-stray (a .args .n) r (f .result) (m .given .0 .0) (a .pre) (f .ensures) e (h ∙ refuted (c .before .zero-from .ensures) (c .if1 .taken)))
 
 returns-3 : tie.Need-returns-3
 unfolding zeroAfterRows
-returns-3 c = let a = c .before .before .before .before .before .before .before .before .before .before in let z = granted (c .before .before .zero-from .ensures) (c .before .if1 .left) in sym (read-found (a .args .n) (now (a .args .r)) (c .before .before .before .before .before .before .before .before .read-fields .result) (c .before .before .before .before .before .message .given .0 .0) (a .pre) (c .before .before .before .before .before .before .before .before .read-fields .ensures) (sym (c .before .before .before .before .before .before .before .message-of .ensures) ∙ c .before .before .before .before .before .message .given .1) (rw (← c .before .before .before .rows-held .ensures) z))
+returns-3 c =
+    let a = c .before .before .before .before .before .before .before .before .before .before in
+    let r = now (a .args .r) in
+    let f = c .before .before .before .before .before .before .before .before .read-fields in
+    let m = c .before .before .before .before .before .message in
+    let e = sym (c .before .before .before .before .before .before .before .message-of .ensures) ∙ m .given .1 in
+    let h = ap (λ (k : ℕ). allZero (drop (rowsAt + k * rowSize) r)) (sym (c .before .before .before .rows-held .ensures)) in
+    sym (read-found (a .args .n) r (f .result) (m .given .0 .0) (a .pre) (f .ensures) e (h ∙ granted (c .before .before .zero-from .ensures) (c .before .if1 .left)))
 
 pub read-record-spec : {M : Type 1} → statement M
 read-record-spec =

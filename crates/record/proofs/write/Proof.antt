@@ -1,15 +1,19 @@
 -- `record::write` meets its contract: nothing past the end, else the part lent comes back as the record.
-use Rattle.record.specs.Layout.{recordOf}
+use borrow.Rule.Slice.PartMut.{putMid}
+use Rattle.item.specs.Maxima.{maxNodes}
+use Rattle.item.specs.declared.Item.{Item}
+use Rattle.endian.specs.Part.{withPart}
+use Rattle.record.specs.Layout.{recordSize, nextAt, recordOf}
 use mathlib.Core.List.{List}
 use Rattle.endian.specs.PartLaws.{with-all}
 use Rattle.layout.specs.LayoutLaws.{length-layout, length-padded}
 use Rattle.layout.specs.Layout.{layoutBytes, heldRows}
 use Rattle.kinds.specs.Kind.{fieldsOf, rowsHeld}
 use Rattle.record.specs.Record.{recordBytes}
-use Prim.Native.Nat.{ℕ}
+use Prim.Native.Nat.{ℕ, _+_, _-_, _*_, _≤_}
 use lib.ListN.{length, take}
 use native.Mathlib.Omega.{arith}
-use mathlib.Core.Path.{_≡_, sym}
+use mathlib.Core.Path.{_≡_, sym, ap, _∙_}
 use denote.Ref.{now}
 use Rattle.record.specs.RecordLaws.{length-record-of, record-lent, record-back, with-record-none}
 use borrow.Author.Needs.{needs}
@@ -48,7 +52,19 @@ same-length c = search needs
 
 returns-2 : tie.Need-returns-2
 unfolding recordBytes heldRows
-returns-2 c = let a = c .before .before .before .before .before .before .before .before .args in let whole : List ℕ = layoutBytes (a .next) (fieldsOf (a .envelope)) (heldRows (a .envelope .message) (a .n) (a .rows)) in let long : length whole ≡ 272 = length-layout (a .next) (fieldsOf (a .envelope)) (heldRows (a .envelope .message) (a .n) (a .rows)) (length-padded 15 (take (rowsHeld (a .envelope .message) (a .n)) (a .rows))) in rw (c .before .before .write-record .ensures, c .before .before .before .before .fields-of .ensures, c .before .before .before .before .before .held-rows .ensures, record-lent (now (a .s)) (a .i) (omega arith), with-all 272 (recordOf (now (a .s)) (a .i)) whole (length-record-of (now (a .s)) (a .i) (omega arith)) long) (record-back (now (a .s)) (a .i) whole (omega arith))
+returns-2 c =
+    let a = c .before .before .before .before .before .before .before .before .args in
+    let s = now (a .s) in
+    let held : List Item = heldRows (a .envelope .message) (a .n) (a .rows) in
+    let whole : List ℕ = layoutBytes (a .next) (fieldsOf (a .envelope)) held in
+    let long : length whole ≡ recordSize =
+    length-layout (a .next) (fieldsOf (a .envelope)) held (length-padded maxNodes (take (rowsHeld (a .envelope .message) (a .n)) (a .rows))) in
+    let h : a .i * recordSize + recordSize ≤ length s = omega arith in
+    ap (putMid (a .i * recordSize) (a .i * recordSize + recordSize - a .i * recordSize) s)
+    (c .before .before .write-record .ensures
+    ∙ (λ j. withPart recordSize (record-lent s (a .i) h j) nextAt (layoutBytes (a .next) (c .before .before .before .before .fields-of .ensures j) (c .before .before .before .before .before .held-rows .ensures j)))
+    ∙ with-all recordSize (recordOf s (a .i)) whole (length-record-of s (a .i) h) long)
+    ∙ record-back s (a .i) whole h
 
 pub write-spec : {M : Type 1} → statement M
 write-spec =

@@ -1,6 +1,5 @@
 -- `store::head::set_first_free` meets its contract: the head lent comes back with the two lowest bytes of the number.
-use Rattle.store.specs.Lent.{with-low}
-use Rattle.record.specs.RecordLaws.{record-lent, record-back, with-record-none}
+use Rattle.record.specs.RecordLaws.{with-low, record-lent, record-back, with-record-none}
 use Rattle.record.specs.Layout.{recordOf}
 use Rattle.endian.specs.Number.{withNumber}
 use borrow.Rule.Slice.PartMut.{putMid}

@@ -3,8 +3,8 @@ use Rattle.record.specs.Layout.{withRecord}
 use Rattle.endian.specs.NumberLaws.{with-number-none}
 use Rattle.record.specs.RecordLaws.{length-record-of}
 use Rattle.store.specs.Head.{inboxAt}
-use Rattle.store.specs.Lent.{with-low, with-own}
-use Rattle.record.specs.RecordLaws.{record-lent, record-back, with-record-none}
+use Rattle.store.specs.Lent.{with-own}
+use Rattle.record.specs.RecordLaws.{with-low, record-lent, record-back, with-record-none}
 use Rattle.record.specs.Layout.{recordOf}
 use Rattle.endian.specs.Number.{withNumber}
 use borrow.Rule.Slice.PartMut.{putMid}

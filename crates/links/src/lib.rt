@@ -1,0 +1,51 @@
+// The link of one record to the next on its chain, and records cleared, at any place of any slice. Everything is proved,
+// no public function has a `requires`, and each gives what one definition of the crate `record` says. A record that does
+// not lie whole within the slice has no next, is not zero and is not written, whatever number is handed in.
+ghost use mathlib.Core.Path.{_≡_};
+ghost use Rattle.record.specs.Layout.{recordOf, withRecord, nextOf};
+ghost use Rattle.record.specs.Record.{withNext, noRecord, zeroAfterNext};
+
+// The record after record `i` on its chain, 0 at the end.
+pub fn next(s: &[u8], i: usize) -> usize
+    ensures { λ r. ⌜ r ≡ nextOf (recordOf (now (s .entry)) i) ⌝ }
+{
+    if s.len() / record::SIZE <= i {
+        return 0;
+    }
+    let a = i * record::SIZE;
+    endian::read_u16(&s[a..a + record::SIZE], layout::NEXT_AT) as usize
+}
+
+// `next` comes after record `i`, as far as two bytes hold it; no other byte changes.
+pub fn set_next(s: &mut [u8], i: usize, next: usize)
+    ensures { λ _. ⌜ now (s .exit) ≡ withRecord (now (s .entry)) i (withNext (recordOf (now (s .entry)) i) next) ⌝ }
+{
+    if s.len() / record::SIZE <= i {
+        return;
+    }
+    let a = i * record::SIZE;
+    let low = (next % 65536) as u16;
+    endian::write_u16(&mut s[a..a + record::SIZE], layout::NEXT_AT, low);
+}
+
+// Record `i` becomes zeros.
+pub fn clear(s: &mut [u8], i: usize)
+    ensures { λ _. ⌜ now (s .exit) ≡ withRecord (now (s .entry)) i noRecord ⌝ }
+{
+    if s.len() / record::SIZE <= i {
+        return;
+    }
+    let a = i * record::SIZE;
+    endian::clear(&mut s[a..a + record::SIZE]);
+}
+
+// Whether record `i` is zero after next, as a free one is.
+pub fn zero_after_next(s: &[u8], i: usize) -> bool
+    ensures { λ r. ⌜ r ≡ zeroAfterNext (recordOf (now (s .entry)) i) ⌝ }
+{
+    if s.len() / record::SIZE <= i {
+        return false;
+    }
+    let a = i * record::SIZE;
+    endian::is_zero(&s[a + layout::KIND_AT..a + record::SIZE])
+}
