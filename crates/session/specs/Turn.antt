@@ -10,6 +10,7 @@ use Rattle.answers.specs.declared.Reply.the-variants as reply
 use Rattle.protocol.specs.Operation.{Result, setUp, perform, isRefused}
 use Rattle.protocol.specs.Table.{noNode}
 use Rattle.protocol.specs.declared.Answer.{Answer}
+use Rattle.protocol.specs.declared.Event.{Event}
 use Rattle.script.specs.declared.Line.{Line}
 use Rattle.script.specs.declared.Line.the-variants.{SetUp, Call, Unread}
 use Rattle.session.specs.declared.Drill.{Drill}
@@ -46,10 +47,14 @@ sizeAfter n before answer = cond (isRefused answer) before n
 unfoldable pub begun : ℕ → Drill → Result → Done
 begun n drill result = answered (sizeAfter n (drill .n) (result .answer)) n drill result
 
--- "Any other line prints `unread` after its count: .. and any line but `n` before the first accepted `n` included"
-unfoldable pub lineDone : Line → Drill → List ℕ → Done
-lineDone (SetUp n) drill store = begun n drill (setUp n (take n (drill .nodes)) store)
-lineDone (Call event) drill store =
+-- an event of the group that stands. "any line but `n` before the first accepted `n`" is unread
+unfoldable pub called : Event → Drill → List ℕ → Done
+called event drill store =
     cond (eqb (drill .n) 0) (unread drill store)
     (answered (drill .n) (drill .n) drill (perform event (take (drill .n) (drill .nodes)) store))
+
+-- "Any other line prints `unread` after its count"
+unfoldable pub lineDone : Line → Drill → List ℕ → Done
+lineDone (SetUp n) drill store = begun n drill (setUp n (take n (drill .nodes)) store)
+lineDone (Call event) drill store = called event drill store
 lineDone Unread drill store = unread drill store

@@ -8,7 +8,7 @@ use script::Line;
 ghost use mathlib.Core.Path.{_≡_};
 ghost use lib.ListN.{take};
 ghost use Rattle.protocol.specs.Operation as operation;
-ghost use Rattle.session.specs.Turn.{begun, lineDone, noGroup, sizeAfter};
+ghost use Rattle.session.specs.Turn.{begun, called, lineDone, noGroup, sizeAfter};
 
 // A drill between two lines: how many nodes its group has, 0 while no group stands, and the nodes held, of which the
 // first ones are the group's table. The store is lent beside it.
@@ -82,7 +82,7 @@ fn size_after(n: u64, before: u64, answer: Answer) -> u64
 
 // An event of the group that stands; unread where none does.
 fn call(drill: Drill, store: &mut [u8], event: Event) -> Turn
-    ensures { λ r. ⌜ (r ≡ lineDone (Line.Call event) drill (now (store .entry)) .turn) × (now (store .exit) ≡ lineDone (Line.Call event) drill (now (store .entry)) .store) ⌝ }
+    ensures { λ r. ⌜ (r ≡ called event drill (now (store .entry)) .turn) × (now (store .exit) ≡ called event drill (now (store .entry)) .store) ⌝ }
 {
     let n = drill.n;
     if n == 0 {

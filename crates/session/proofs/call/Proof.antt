@@ -1,13 +1,13 @@
 -- `session::call`: by whether a group stands.
 use borrow.Author.Tests.{eq-eqb, ne-eqb}
-use Rattle.session.specs.Turn.{answered, lineDone, unread}
+use Rattle.session.specs.Turn.{answered, called, unread}
 use Rattle.lending.specs.Lending.{outcomeOf}
 use borrow.Author.Needs.{needs}
 use Rattle.session.proofs.call.Statement.{statement}
 use Rattle.session.proofs.call.Tie as tie
 
 returns : tie.Need-returns
-unfolding lineDone unread
+unfolding called unread
 returns c = (rw (eq-eqb _ _ (c .if1 .taken)), rw (eq-eqb _ _ (c .if1 .taken)))
 
 perform-requires : tie.Need-perform-requires
@@ -17,7 +17,7 @@ same-length : tie.Need-same-length
 same-length c = search needs
 
 returns-2 : tie.Need-returns-2
-unfolding lineDone answered outcomeOf
+unfolding called answered outcomeOf
 returns-2 c = let e = c .before .before .before .perform .ensures in let t = ne-eqb _ _ (c .before .before .before .before .before .before .if1 .left) in (rw (t, e .0), rw (t, e .1))
 
 pub call-spec : {M : Type 1} → statement M

@@ -30,6 +30,7 @@ same-length-2 : tie.Need-same-length-2
 same-length-2 c = search needs
 
 returns-2 : tie.Need-returns-2
+unfolding lineDone
 returns-2 c = let l = c .before .before .before .before .before .line2 .given .1 in let e = c .before .before .call .ensures in (rw (l, e .0), rw (l, e .1))
 
 returns-3 : tie.Need-returns-3
