@@ -1,12 +1,12 @@
-// Little-endian numbers of 2, 4 and 8 bytes in a slice, and zero bytes. Everything is proved, no public function has
+// Little-endian numbers of 2, 4 and 8 bytes read from a slice, and zero bytes tested. Everything is proved, no public function has
 // a `requires`, and each gives what one definition of specs/ says. A number that does not lie within the slice reads
-// as 0 and is not written, whatever place is handed in.
+// as 0, whatever place is handed in.
 ghost use mathlib.Core.Path.{_≡_};
 ghost use Prim.Native.Nat.{_+_, _≤_};
 ghost use lib.Dec.{leb};
 ghost use lib.ListN.{length};
-ghost use Rattle.endian.specs.Number.{numberAt, withNumber};
-ghost use Rattle.endian.specs.Zero.{zeros, allZero};
+ghost use Rattle.endian.specs.Number.{numberAt};
+ghost use Rattle.endian.specs.Zero.{allZero};
 
 // Whether `width` elements from `at` lie within a slice of `len` elements.
 pub fn lies_within(len: usize, at: usize, width: usize) -> bool
@@ -49,30 +49,6 @@ fn eight(s: &[u8], at: usize) -> u64
     low + 4294967296 * high
 }
 
-fn put_two(s: &mut [u8], at: usize, v: u16)
-    requires { ⌜ at + 2 ≤ length (now s) ⌝ }
-    ensures { λ _. ⌜ now (s .exit) ≡ withNumber 2 (now (s .entry)) at v ⌝ }
-{
-    s[at] = (v % 256) as u8;
-    s[at + 1] = (v / 256) as u8;
-}
-
-fn put_four(s: &mut [u8], at: usize, v: u32)
-    requires { ⌜ at + 4 ≤ length (now s) ⌝ }
-    ensures { λ _. ⌜ now (s .exit) ≡ withNumber 4 (now (s .entry)) at v ⌝ }
-{
-    put_two(s, at, (v % 65536) as u16);
-    put_two(s, at + 2, (v / 65536) as u16);
-}
-
-fn put_eight(s: &mut [u8], at: usize, v: u64)
-    requires { ⌜ at + 8 ≤ length (now s) ⌝ }
-    ensures { λ _. ⌜ now (s .exit) ≡ withNumber 8 (now (s .entry)) at v ⌝ }
-{
-    put_four(s, at, (v % 4294967296) as u32);
-    put_four(s, at + 4, (v / 4294967296) as u32);
-}
-
 // The number in the two bytes from `at`.
 pub fn read_u16(s: &[u8], at: usize) -> u16
     ensures { λ r. ⌜ r ≡ numberAt 2 (now (s .entry)) at ⌝ }
@@ -103,36 +79,6 @@ pub fn read_u64(s: &[u8], at: usize) -> u64
     eight(s, at)
 }
 
-// The two bytes from `at` become `v`.
-pub fn write_u16(s: &mut [u8], at: usize, v: u16)
-    ensures { λ _. ⌜ now (s .exit) ≡ withNumber 2 (now (s .entry)) at v ⌝ }
-{
-    if !lies_within(s.len(), at, 2) {
-        return;
-    }
-    put_two(s, at, v);
-}
-
-// The four bytes from `at` become `v`.
-pub fn write_u32(s: &mut [u8], at: usize, v: u32)
-    ensures { λ _. ⌜ now (s .exit) ≡ withNumber 4 (now (s .entry)) at v ⌝ }
-{
-    if !lies_within(s.len(), at, 4) {
-        return;
-    }
-    put_four(s, at, v);
-}
-
-// The eight bytes from `at` become `v`.
-pub fn write_u64(s: &mut [u8], at: usize, v: u64)
-    ensures { λ _. ⌜ now (s .exit) ≡ withNumber 8 (now (s .entry)) at v ⌝ }
-{
-    if !lies_within(s.len(), at, 8) {
-        return;
-    }
-    put_eight(s, at, v);
-}
-
 // Whether every byte is 0. All are looked at, by one loop without a way out, which the compiler widens.
 pub fn is_zero(s: &[u8]) -> bool
     ensures { λ r. ⌜ r ≡ allZero (now (s .entry)) ⌝ }
@@ -144,15 +90,4 @@ pub fn is_zero(s: &[u8]) -> bool
         i += 1;
     }
     joined == 0
-}
-
-// Every byte becomes 0.
-pub fn clear(s: &mut [u8])
-    ensures { λ _. ⌜ now (s .exit) ≡ zeros (length (now (s .entry))) ⌝ }
-{
-    let mut i = 0;
-    while i < s.len() {
-        s[i] = 0;
-        i += 1;
-    }
 }

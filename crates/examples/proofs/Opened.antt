@@ -1,6 +1,6 @@
 -- What a proof by computation opens, in groups: to open one of these names is to open every definition on its line.
 use Rattle.item.specs.Maxima.{validSize}
-use Rattle.item.specs.Counter.{sameIncarnation, sameAttempt, indexBelow, indexAtLargest, nextIndex, incarnationAtLargest, nextIncarnation, attemptAtLargest, nextAttempt, earlier}
+use Rattle.counters.specs.Counter.{sameIncarnation, sameAttempt, indexBelow, indexAtLargest, nextIndex, incarnationAtLargest, nextIncarnation, attemptAtLargest, nextAttempt, earlier}
 use Rattle.item.specs.Item.{tagsAgree, ranksBelow, sameItem}
 use Rattle.item.specs.Row.{sameRow}
 use Rattle.endian.specs.Part.{whole, part, withPart}

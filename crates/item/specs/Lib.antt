@@ -1,5 +1,4 @@
 pub mod Maxima
-pub mod Counter
 pub mod Item
 pub mod Row
 pub mod Tests

@@ -25,7 +25,7 @@ pub fn set_next(s: &mut [u8], i: usize, next: usize)
     }
     let a = i * record::SIZE;
     let low = (next % 65536) as u16;
-    endian::write_u16(&mut s[a..a + record::SIZE], layout::NEXT_AT, low);
+    endian_write::write_u16(&mut s[a..a + record::SIZE], layout::NEXT_AT, low);
 }
 
 // Record `i` becomes zeros.
@@ -36,7 +36,7 @@ pub fn clear(s: &mut [u8], i: usize)
         return;
     }
     let a = i * record::SIZE;
-    endian::clear(&mut s[a..a + record::SIZE]);
+    endian_write::clear(&mut s[a..a + record::SIZE]);
 }
 
 // Whether record `i` is zero after next, as a free one is.

@@ -5,11 +5,11 @@ use mathlib.Core.Path.{_≡_}
 use mathlib.Core.Bool.{true, false, _&&_}
 use mathlib.Core.List.{List}
 use lib.Dec.{ltb}
-use Rattle.item.specs.Counter.{sameIncarnation, earlier, incarnationAtLargest, attemptAtLargest}
+use Rattle.counters.specs.Counter.{sameIncarnation, earlier, incarnationAtLargest, attemptAtLargest}
 use Rattle.item.specs.Item.{ranksBelow, sameItem}
 use Rattle.item.specs.Tests.{by-cond, and-right}
-use Rattle.item.specs.declared.Attempt.{Attempt}
-use Rattle.item.specs.declared.Incarnation.{Incarnation}
+use Rattle.counters.specs.declared.Attempt.{Attempt}
+use Rattle.counters.specs.declared.Incarnation.{Incarnation}
 use Rattle.item.specs.declared.Item.{Item}
 use Rattle.item.specs.declared.Tag.{Tag}
 use Rattle.message.specs.declared.Envelope.{Envelope}

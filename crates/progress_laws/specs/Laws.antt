@@ -6,7 +6,7 @@ use mathlib.Core.Bool.{true}
 use mathlib.Core.List.{List, [], _∷_, _++_, map}
 use lib.ListN.{length}
 use Rattle.item.specs.Maxima.{tagSize}
-use Rattle.item.specs.declared.Incarnation.{Incarnation}
+use Rattle.counters.specs.declared.Incarnation.{Incarnation}
 use Rattle.item.specs.declared.Tag.{Tag}
 use Rattle.record.specs.declared.Reading.the-variants.{Found}
 use Rattle.store.specs.Records.{recordsOf}

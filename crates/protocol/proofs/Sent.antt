@@ -15,7 +15,7 @@ use Rattle.item.specs.Maxima.{maxNodes}
 use Rattle.item.specs.Row.{zeroRow}
 use Rattle.item.specs.Tests.{by-cond, and-left}
 use Rattle.item.specs.declared.Item.{Item}
-use Rattle.item.specs.declared.Incarnation.{Incarnation}
+use Rattle.counters.specs.declared.Incarnation.{Incarnation}
 use Rattle.item.specs.declared.Row.{Row}
 use Rattle.message.specs.declared.Envelope.{Envelope}
 use Rattle.message.specs.declared.Message.{Message}

@@ -62,7 +62,7 @@ pub fn set_first_free(s: &mut [u8], i: usize)
     if s.len() < record::SIZE {
         return;
     }
-    endian::write_u16(&mut s[0..record::SIZE], FREE_AT, (i % 65536) as u16);
+    endian_write::write_u16(&mut s[0..record::SIZE], FREE_AT, (i % 65536) as u16);
 }
 
 // `i` becomes the first record of node `k`'s inbox.
@@ -76,7 +76,7 @@ pub fn set_first_of(s: &mut [u8], k: usize, i: usize)
         return;
     }
     let at = INBOXES_AT + k * INBOX_SIZE;
-    endian::write_u16(&mut s[0..record::SIZE], at, (i % 65536) as u16);
+    endian_write::write_u16(&mut s[0..record::SIZE], at, (i % 65536) as u16);
 }
 
 // `n` becomes the size of the group, as far as one byte holds it.

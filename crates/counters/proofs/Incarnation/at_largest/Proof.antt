@@ -1,0 +1,12 @@
+-- `counters::Incarnation::at_largest` meets its contract: one comparison with the largest number.
+use Rattle.counters.specs.Counter.{incarnationAtLargest}
+use borrow.Author.Needs.{needs}
+use Rattle.counters.proofs.Incarnation.at_largest.Statement.{statement}
+use Rattle.counters.proofs.Incarnation.at_largest.Tie as tie
+
+returns : tie.Need-returns
+unfolding incarnationAtLargest
+returns c = search needs
+
+pub at-largest-spec : {M : Type 1} → statement M
+at-largest-spec = tie.close (tie.spec returns)

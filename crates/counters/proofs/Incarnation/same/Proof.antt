@@ -1,0 +1,12 @@
+-- `counters::Incarnation::same` meets its contract: one comparison.
+use Rattle.counters.specs.Counter.{sameIncarnation}
+use borrow.Author.Needs.{needs}
+use Rattle.counters.proofs.Incarnation.same.Statement.{statement}
+use Rattle.counters.proofs.Incarnation.same.Tie as tie
+
+returns : tie.Need-returns
+unfolding sameIncarnation
+returns c = search needs
+
+pub same-spec : {M : Type 1} → statement M
+same-spec = tie.close (tie.spec returns)
