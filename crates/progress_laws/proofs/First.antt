@@ -2,35 +2,31 @@
 use Prim.Native.Nat.{ℕ, zero, suc, _+_, _-_, _≤_, _<_, _^_}
 use native.Mathlib.Omega.{arith}
 use native.Mathlib.Nat.{zero-add}
-use mathlib.Core.Path.{_≡_, refl, sym, ap, subst, _∙_}
+use mathlib.Core.Path.{_≡_, refl, ap, subst, _∙_}
 use mathlib.Core.Logic.{_≢_}
-use mathlib.Core.Bool.{true, false, not}
+use mathlib.Core.Bool.{true, false}
 use mathlib.Core.List.{List}
 use lib.ListN.{getD}
 use lib.Seq.{getD-set-same}
-use borrow.Author.Tests.{lt-ltb, ne-eqb}
+use borrow.Author.Tests.{lt-ltb}
 use Rattle.chains.specs.Empty.{set-up-done}
 use Rattle.counters.specs.Counter.{indexBelow, indexAtLargest, attemptAtLargest, nextIndex}
 use Rattle.item.specs.Item.{ranksBelow, zeroItem}
 use Rattle.item.specs.Maxima.{maxNodes, tagSize}
 use Rattle.item.specs.Row.{zeroRow}
-use Rattle.item.specs.Tests.{and-both}
 use Rattle.item.specs.declared.Item.{Item}
 use Rattle.item.specs.declared.Row.{Row}
 use Rattle.item.specs.declared.Tag.{Tag}
 use Rattle.message.specs.declared.Message.the-variants as message
-use Rattle.record.specs.declared.Reading.the-variants.{Found}
-use Rattle.store.specs.Change.{countOutgoing, emptyRecords}
+use Rattle.store.specs.Change.{emptyRecords}
 use Rattle.store.specs.Head.{groupSize}
 use Rattle.store.specs.Joined.{records-joined}
 use Rattle.store.specs.Locality.{length-empty, empty-sized}
 use Rattle.store.specs.Records.{recordCount, recordsOf, joined}
-use Rattle.store.specs.Sound.{freeCount, messageIn}
-use Rattle.protocol.specs.Answer.{ok}
+use Rattle.store.specs.Sound.{freeCount}
 use Rattle.protocol.specs.Claim.{TagFits}
 use Rattle.protocol.specs.Node.{half, zeroRows, blankNode, freshNode, rowOf, ownItem, storingBegun, writeEnded}
-use Rattle.protocol.specs.Operation.{Result, isRefused, carriedOut, atNode, onSound, setUp, perform}
-use Rattle.protocol.specs.Outgoing.{outgoing, outgoingTo, goesTo, messageTo}
+use Rattle.protocol.specs.Operation.{Result, carriedOut, atNode, onSound, setUp, perform}
 use Rattle.protocol.specs.Phase.{isUp, isUpIdle, isIdleStage}
 use Rattle.protocol.specs.Table.{noNode, nodeAt, freshNodes, freshTable}
 use Rattle.protocol.specs.Write.{sendStore, nextItem, writeAtLargest, written, writeStep}
@@ -42,16 +38,12 @@ use Rattle.protocol.proofs.Fitting.{getD-same}
 use Rattle.protocol.proofs.InView.{size-fits}
 use Rattle.protocol.proofs.Start.{SetUpTo, set-up-is}
 use Rattle.acting_laws.specs.Acting.{rowTakes}
-use Rattle.acting_laws.proofs.Sent.{others-sent}
 use Rattle.run_laws.specs.Laws.{LeavesSound, SetUpIsSound}
 use Rattle.run_laws.proofs.Keeps.{Decided, write-decided, performed-is, performs}
 use Rattle.run_laws.proofs.Runs.{set-up-is-sound}
-use Rattle.progress_laws.specs.Delivery.{storeTo}
-use Rattle.progress_laws.specs.Each.{Both}
-use Rattle.progress_laws.specs.Laws.{Peers, GetsThrough, HasBegun, WriteGetsThrough, FirstWriteGetsThrough}
-use Rattle.progress_laws.proofs.Delivering.{Acted, out-has, carried-acted, replaced, left-alone}
-use Rattle.progress_laws.proofs.Lists.{each-map, both-of}
-use Rattle.progress_laws.proofs.Through.{write-gets-through}
+use Rattle.progress_laws.specs.Laws.{Peers, BeginsAndGetsThrough, FirstWriteGetsThrough}
+use Rattle.progress_laws.proofs.Lists.{each-map}
+use Rattle.progress_laws.proofs.Begins.{begins}
 
 -- ---- the nodes after set-up
 
@@ -120,71 +112,28 @@ module _ (n x : ℕ) (low : x < n) (most : n ≤ maxNodes) (tag : Tag) (t : tag 
       ∙ rw (lt-ltb x (groupSize (recordsOf (before .store))) (omega (arith, G .size)))
       (ap (carriedOut (before .table) (before .store) (recordsOf (before .store)) x x) step-is)
 
-  sent : countOutgoing (outgoing (sendStore (writer n x tag) .node) (sendStore (writer n x tag) .sends) x) ≡ n - 1
-  unfolding sendStore ok written storingBegun freshNode writeEnded blankNode
-  sent = others-sent (writer n x tag) x _ low most
-
-  acted : Acted n before x x (sendStore (writer n x tag)) (perform (event.Write x tag) (before .table) (before .store))
-  unfolding sendStore ok isRefused TagFits
-  acted =
-      carried-acted n before G x x (sendStore (writer n x tag)) decided refl (omega (arith, sent, free)) begun begun-is
-      (performs n (before .table) (before .store) G (event.Write x tag) t)
-
-  x-is : nodeAt (begun .table) x ≡ writer n x tag
-  unfolding sendStore ok
-  x-is = replaced n before begun G x low (writer n x tag) (acted .table-is)
-
-  q-is : (q : ℕ) → q < n → q ≢ x → nodeAt (begun .table) q ≡ freshNode q n
-  unfolding sendStore ok
-  q-is q h d = left-alone n before begun G x low (writer n x tag) (acted .table-is) q d ∙ node-fresh q h
-
-  store-sent : (q : ℕ) → q < n → q ≢ x
-      → (r : ℕ) × (messageIn (recordsOf (begun .store)) r ≡ Found (storeTo (nodeAt (begun .table) x) q (nodeAt (begun .table) q .incarnation)))
-  unfolding sendStore ok outgoingTo goesTo messageTo written storingBegun freshNode writeEnded blankNode
-  store-sent q h d =
-      let s = acted .mail .new (outgoingTo (writer n x tag) (sendStore (writer n x tag) .sends) x q)
-      (out-has (writer n x tag) (sendStore (writer n x tag) .sends) x q (omega arith)) (and-both (lt-ltb q n h) (ap not (ne-eqb q x d))) in
-      (s .0, s .1 ∙ ap (λ (v : Node). Found (storeTo v q (nodeAt (begun .table) q .incarnation))) (sym x-is))
-
-  row-takes : (q : ℕ) → q < n → q ≢ x
-      → rowTakes (rowOf (nodeAt (begun .table) q) x) (nodeAt (begun .table) x .incarnation) (nodeAt (begun .table) x .attempt) (ownItem (nodeAt (begun .table) x)) ≡ true
-  unfolding rowTakes ranksBelow indexBelow
-  row-takes q h d =
-      let row : rowOf (nodeAt (begun .table) q) x ≡ zeroRow = ap (λ (v : Node). rowOf v x) (q-is q h d) ∙ fresh-row q n x in
-      let item : ownItem (nodeAt (begun .table) x) ≡ firstItem tag = ap ownItem x-is ∙ written-item n x tag (omega arith) in
-      rw (item, row)
-
-  up : (q : ℕ) → q < n → q ≢ x → isUp (nodeAt (begun .table) q .phase) ≡ true
+  fresh-up : (q : ℕ) → q < n → isUp (nodeAt (before .table) q .phase) ≡ true
   unfolding isUp freshNode writeEnded blankNode
-  up q h d = ap (λ (v : Node). isUp (v .phase)) (q-is q h d)
+  fresh-up q h = ap (λ (v : Node). isUp (v .phase)) (node-fresh q h)
 
-  has-begun : (peers : List ℕ) (P : Peers n x peers) (records : List ℕ)
-      → Both (λ q r. messageIn (recordsOf (begun .store)) r ≡ Found (storeTo (nodeAt (begun .table) x) q (nodeAt (begun .table) q .incarnation))) peers records
-      → HasBegun n x peers records (perform (event.Write x tag) (before .table) (before .store))
-  unfolding written storingBegun half
-  has-begun peers P records stores =
-      record {
-        sound = acted .group;
-        below = low;
-        storing = ap (λ (v : Node). v .phase) x-is;
-        none-counted = ap (λ (v : Node). v .counted) x-is;
-        stores = stores;
-        up = each-map (λ q. (q < n) × (q ≢ x)) (λ q. isUp (nodeAt (begun .table) q .phase) ≡ true) (λ q z. up q (z .0) (z .1)) peers (P .others);
-        taken = each-map (λ q. (q < n) × (q ≢ x)) (λ q. rowTakes (rowOf (nodeAt (begun .table) q) x) (nodeAt (begun .table) x .incarnation)
-            (nodeAt (begun .table) x .attempt) (ownItem (nodeAt (begun .table) x)) ≡ true) (λ q z. row-takes q (z .0) (z .1)) peers (P .others);
-        room = omega (arith, acted .mail .fewer, sent, free);
-      }
+  -- a zero row takes an item of index 1
+  row-takes : (q : ℕ) → q < n
+      → rowTakes (rowOf (nodeAt (before .table) q) x) (writer n x tag .incarnation) (writer n x tag .attempt) (ownItem (writer n x tag)) ≡ true
+  unfolding rowTakes ranksBelow indexBelow
+  row-takes q h =
+      let row : rowOf (nodeAt (before .table) q) x ≡ zeroRow = ap (λ (v : Node). rowOf v x) (node-fresh q h) ∙ fresh-row q n x in
+      rw (written-item n x tag (omega arith), row)
 
-  first-through : (peers : List ℕ) → Peers n x peers
-      → (begun .answer ≡ answer.Ok) × (ownItem (nodeAt (begun .table) x) ≡ firstItem tag)
-      × GetsThrough (nodeAt (begun .table) x) peers (λ q. nodeAt (begun .table) q .incarnation) begun
-  unfolding WriteGetsThrough sendStore ok
+  first-through : (peers : List ℕ) → Peers n x peers → BeginsAndGetsThrough x peers (firstItem tag) begun
+  unfolding written storingBegun half TagFits
   first-through peers P =
-      let s = both-of (λ q r. messageIn (recordsOf (begun .store)) r ≡ Found (storeTo (nodeAt (begun .table) x) q (nodeAt (begun .table) q .incarnation))) peers
+      subst (λ (k : Item). BeginsAndGetsThrough x peers k begun) (written-item n x tag (omega arith))
+      (begins n x low before G (writer n x tag) decided refl refl (omega arith) begun begun-is
+      (performs n (before .table) (before .store) G (event.Write x tag) t) peers P
+      (each-map (λ q. (q < n) × (q ≢ x)) (λ q. isUp (nodeAt (before .table) q .phase) ≡ true) (λ q z. fresh-up q (z .0)) peers (P .others))
       (each-map (λ q. (q < n) × (q ≢ x))
-      (λ q. (r : ℕ) × (messageIn (recordsOf (begun .store)) r ≡ Found (storeTo (nodeAt (begun .table) x) q (nodeAt (begun .table) q .incarnation))))
-      (λ q z. store-sent q (z .0) (z .1)) peers (P .others)) in
-      (acted .answer-is, ap ownItem x-is ∙ written-item n x tag (omega arith), write-gets-through n x peers (s .0) begun P (has-begun peers P (s .0) (s .1)))
+      (λ q. rowTakes (rowOf (nodeAt (before .table) q) x) (writer n x tag .incarnation) (writer n x tag .attempt) (ownItem (writer n x tag)) ≡ true)
+      (λ q z. row-takes q (z .0)) peers (P .others)))
 
 pub first-write-gets-through : FirstWriteGetsThrough
 unfolding FirstWriteGetsThrough SetUpIsSound

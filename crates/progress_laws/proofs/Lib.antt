@@ -5,4 +5,6 @@ pub mod Peer
 pub mod Writer
 pub mod Stages
 pub mod Through
+pub mod Begins
 pub mod First
+pub mod Again

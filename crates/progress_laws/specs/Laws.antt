@@ -1,19 +1,21 @@
 -- Progress: a write that has just begun is settled by 4f deliveries, none refused, to and from f peers that are Up.
-use Prim.Native.Nat.{ℕ, _+_, _-_, _≤_, _<_, _^_}
+use Prim.Native.Nat.{ℕ, _+_, _*_, _-_, _≤_, _<_, _^_}
 use mathlib.Core.Path.{_≡_}
 use mathlib.Core.Logic.{_≢_}
-use mathlib.Core.Bool.{true}
+use mathlib.Core.Bool.{true, false}
 use mathlib.Core.List.{List, [], _∷_, _++_, map}
 use lib.ListN.{length}
+use Rattle.counters.specs.Counter.{attemptAtLargest, nextAttempt}
 use Rattle.item.specs.Maxima.{tagSize}
 use Rattle.counters.specs.declared.Incarnation.{Incarnation}
+use Rattle.item.specs.declared.Item.{Item}
 use Rattle.item.specs.declared.Tag.{Tag}
 use Rattle.record.specs.declared.Reading.the-variants.{Found}
 use Rattle.store.specs.Records.{recordsOf}
 use Rattle.store.specs.Sound.{freeCount, messageIn}
 use Rattle.protocol.specs.Node.{half, noPeers, rowOf, ownItem}
 use Rattle.protocol.specs.Operation.{Result, setUp, perform}
-use Rattle.protocol.specs.Phase.{isUp}
+use Rattle.protocol.specs.Phase.{isUp, isIdle}
 use Rattle.protocol.specs.Table.{nodeAt}
 use Rattle.protocol.specs.declared.Answer.the-variants as answer
 use Rattle.protocol.specs.declared.Event.the-variants as event
@@ -66,11 +68,36 @@ WriteGetsThrough =
     (n x : ℕ) (peers records : List ℕ) (result : Result) → Peers n x peers → HasBegun n x peers records result →
     GetsThrough (nodeAt (result .table) x) peers (λ q. nodeAt (result .table) q .incarnation) result
 
+-- a call that begins a write of node x, or begins it again: it is answered ok, this item is written, and it gets through
+pub record BeginsAndGetsThrough (x : ℕ) (peers : List ℕ) (item : Item) (begun : Result) : Type 0 where
+  pub is-ok : begun .answer ≡ answer.Ok
+  pub item-is : ownItem (nodeAt (begun .table) x) ≡ item
+  pub through : GetsThrough (nodeAt (begun .table) x) peers (λ q. nodeAt (begun .table) q .incarnation) begun
+
 -- the first write after set-up: index 1 and the tag given
 unfoldable pub FirstWriteGetsThrough : Type 0
 FirstWriteGetsThrough =
     (n x : ℕ) (table : List Node) (store : List ℕ) → setUp n table store .answer ≡ answer.Ok → x < n →
     (tag : Tag) → tag .0 < 256 ^ tagSize → (peers : List ℕ) → Peers n x peers →
-    let begun = perform (event.Write x tag) (setUp n table store .table) (setUp n table store .store) in
-    (begun .answer ≡ answer.Ok) × (ownItem (nodeAt (begun .table) x) ≡ record { index = record { 0 = 1 }; tag = tag }) ×
-    GetsThrough (nodeAt (begun .table) x) peers (λ q. nodeAt (begun .table) q .incarnation) begun
+    BeginsAndGetsThrough x peers (record { index = record { 0 = 1 }; tag = tag })
+    (perform (event.Write x tag) (setUp n table store .table) (setUp n table store .store))
+
+-- a Retry of an Up node whose write is under way, with 5f free records, where f peers are Up and their rows take its item
+-- under the next attempt
+pub record MayRetry (n x : ℕ) (peers : List ℕ) (before : Result) : Type 0 where
+  pub sound : LeavesSound n before
+  pub below : x < n
+  pub is-up : isUp (nodeAt (before .table) x .phase) ≡ true
+  pub under-way : isIdle (nodeAt (before .table) x .phase) ≡ false
+  pub may-rise : attemptAtLargest (nodeAt (before .table) x .attempt) ≡ false
+  pub up : Each (λ q. isUp (nodeAt (before .table) q .phase) ≡ true) peers
+  pub taken : Each
+      (λ q. rowTakes (rowOf (nodeAt (before .table) q) x) (nodeAt (before .table) x .incarnation)
+      (nextAttempt (nodeAt (before .table) x .attempt)) (ownItem (nodeAt (before .table) x)) ≡ true)
+      peers
+  pub room : 5 * half n ≤ freeCount (recordsOf (before .store))
+
+unfoldable pub RetryGetsThrough : Type 0
+RetryGetsThrough =
+    (n x : ℕ) (peers : List ℕ) (before : Result) → Peers n x peers → MayRetry n x peers before →
+    BeginsAndGetsThrough x peers (ownItem (nodeAt (before .table) x)) (perform (event.Retry x) (before .table) (before .store))
