@@ -31,7 +31,7 @@ use Rattle.protocol.specs.declared.Step.{Step}
 use Rattle.act.specs.Act as one
 use Rattle.act.specs.Act.{Outcome, addresseeOf, placeOf, lookAt}
 use Rattle.act.specs.declared.Seen.{Seen}
-use Rattle.group.specs.AtPlace.{putBack, atPlace}
+use Rattle.place.specs.AtPlace.{putBack, atPlace}
 
 -- a node that is put back as it was changes nothing
 same-node : (table : List Node) (k : ℕ) → set table k (nodeAt table k) ≡ table
