@@ -31,7 +31,7 @@ use Rattle.protocol.specs.declared.Step.{Step}
 use Rattle.outcome.specs.Act as one
 use Rattle.outcome.specs.Act.{Outcome, addresseeOf, placeOf, lookAt}
 use Rattle.outcome.specs.declared.Seen.{Seen}
-use Rattle.group.specs.AtPlace.{putBack, atPlace}
+use Rattle.place.specs.AtPlace.{putBack, atPlace}
 
 -- a node that is put back as it was changes nothing
 same-node : (table : List Node) (k : ℕ) → set table k (nodeAt table k) ≡ table

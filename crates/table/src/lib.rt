@@ -29,12 +29,12 @@ pub fn node_or(table: &[Node], i: usize, other: Node) -> Node
     other
 }
 
-// The node at `i` is replaced; where the table has none nothing is.
-pub fn replace_node(table: &mut [Node], i: usize, node: Node)
-    ensures { λ _. ⌜ now (table .exit) ≡ set (now (table .entry)) i node ⌝ }
+// The node at `k` is replaced; where the table has none nothing is.
+pub fn replace_node(table: &mut [Node], k: usize, node: Node)
+    ensures { λ _. ⌜ now (table .exit) ≡ set (now (table .entry)) k node ⌝ }
 {
-    if i < table.len() {
-        table[i] = node;
+    if k < table.len() {
+        table[k] = node;
     }
 }
 

@@ -49,8 +49,8 @@ use Rattle.protocol.specs.Operation as operation
 use Rattle.protocol.specs.Table.{soundTable}
 use Rattle.outcome.specs.declared.Seen.{Seen}
 use Rattle.outcome.specs.Act.{lookAt}
-use Rattle.group.specs.AtPlace.{atPlace}
-use Rattle.group.proofs.Offsets.{nAt}
+use Rattle.place.specs.AtPlace.{atPlace}
+use Rattle.place.proofs.Offsets.{nAt}
 use Rattle.table.proofs.Shared.{LentShared, lends-shared, shared-back}
 use Rattle.group.proofs.PutBack.{performed-calls}
 use Rattle.protocol.proofs.Event as K
@@ -69,10 +69,10 @@ use Rattle.table.proofs.check_table as checks
 use Rattle.table.proofs.check_table.Symbol as check-def
 use Rattle.table.proofs.check_table.Symbol.{name as #check}
 use Rattle.table.proofs.check_table.Met as check-thm
-use Rattle.group.proofs.act_at_place as place
-use Rattle.group.proofs.act_at_place.Symbol as place-def
-use Rattle.group.proofs.act_at_place.Symbol.{name as #place}
-use Rattle.group.proofs.act_at_place.Met as place-thm
+use Rattle.place.proofs.act_at_place as place
+use Rattle.place.proofs.act_at_place.Symbol as place-def
+use Rattle.place.proofs.act_at_place.Symbol.{name as #place}
+use Rattle.place.proofs.act_at_place.Met as place-thm
 use Rattle.group.proofs.perform.Key.{name as #perform}
 use Rattle.group.proofs.perform as perform
 use Rattle.group.proofs.perform.Statement as stated
@@ -244,4 +244,4 @@ perform-spec 𝓤 H 𝓜 𝓖 𝓡 =
     (perform-meets 𝓤 H (𝓖 .A) (givenOf 𝓤 H 𝓜 𝓖) (𝓜 .mem) (𝓡 .run) (tablesOf 𝓤 H 𝓜 (tables 𝓤 H 𝓜 𝓡 code.env))
     (cited 𝓤 H (Look 𝓤 H (𝓖 .A) (𝓜 .mem) (𝓡 .run)) 𝓜 𝓡 code.env #look look-def.routine code.calls-act·look (look-thm.met 𝓤 H 𝓜 𝓖 𝓡))
     (cited 𝓤 H (Check 𝓤 H (𝓖 .A) (𝓜 .mem) (𝓡 .run)) 𝓜 𝓡 code.env #check check-def.routine code.calls-table·check-table (check-thm.met 𝓤 H 𝓜 𝓖 𝓡))
-    (cited 𝓤 H (Place 𝓤 H (𝓖 .A) (𝓜 .mem) (𝓡 .run)) 𝓜 𝓡 code.env #place place-def.routine code.calls-group·act-at-place (place-thm.met 𝓤 H 𝓜 𝓖 𝓡)))
+    (cited 𝓤 H (Place 𝓤 H (𝓖 .A) (𝓜 .mem) (𝓡 .run)) 𝓜 𝓡 code.env #place place-def.routine code.calls-place·act-at-place (place-thm.met 𝓤 H 𝓜 𝓖 𝓡)))

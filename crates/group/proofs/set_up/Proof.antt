@@ -46,7 +46,7 @@ use Rattle.protocol.specs.Operation as operation
 use Rattle.table.specs.Fill.{freshTo}
 use Rattle.group.specs.declared.Prepared.{Prepared}
 use Rattle.group.specs.SetUp.{prepared, preparedStore}
-use Rattle.group.proofs.Offsets.{afterAnswer}
+use Rattle.place.proofs.Offsets.{afterAnswer}
 use Rattle.group.proofs.SetUpLaws.{set-up-calls}
 use Rattle.protocol.proofs.Answer as An
 use Rattle.protocol.proofs.Answer.Laws as An′

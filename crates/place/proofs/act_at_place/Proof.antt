@@ -1,4 +1,4 @@
--- `group::act_at_place` meets its contract: a walk of its MIR, by hand. The table is lent as a `&` to `node_or` and comes back; then the store goes to `act` and the table to `replace_node` for good.
+-- `place::act_at_place` meets its contract: a walk of its MIR, by hand. The table is lent as a `&` to `node_or` and comes back; then the store goes to `act` and the table to `replace_node` for good.
 -- All that the proof knows of the callees is that they meet their contracts.
 -- Assumes nothing.
 use mathlib.Core.Path.{_≡_, refl, _∙_, ap}
@@ -49,8 +49,8 @@ use Rattle.protocol.specs.Table.{noNode, nodeAt}
 use Rattle.outcome.specs.declared.Acted.{Acted}
 use Rattle.outcome.specs.declared.Seen.{Seen}
 use Rattle.outcome.specs.Act.{acted, handedBack}
-use Rattle.group.specs.AtPlace.{atPlace}
-use Rattle.group.proofs.Offsets.{placeAt, afterAnswer}
+use Rattle.place.specs.AtPlace.{atPlace}
+use Rattle.place.proofs.Offsets.{placeAt, afterAnswer}
 use Rattle.table.proofs.Shared.{LentShared, lends-shared, shared-back}
 use Rattle.protocol.proofs.Event as K
 use Rattle.protocol.proofs.Event.Laws as K′
@@ -78,10 +78,10 @@ use Rattle.table.proofs.replace_node as replace
 use Rattle.table.proofs.replace_node.Symbol as replace-def
 use Rattle.table.proofs.replace_node.Symbol.{name as #replace}
 use Rattle.table.proofs.replace_node.Met as replace-thm
-use Rattle.group.proofs.act_at_place.Key.{name as #place}
-use Rattle.group.proofs.act_at_place as place
-use Rattle.group.proofs.act_at_place.Statement as stated
-use Rattle.group.proofs.act_at_place.Code as code
+use Rattle.place.proofs.act_at_place.Key.{name as #place}
+use Rattle.place.proofs.act_at_place as place
+use Rattle.place.proofs.act_at_place.Statement as stated
+use Rattle.place.proofs.act_at_place.Code as code
 
 abbrev stayed : Stays (place.ended .signature .params) (place.ended .kept)
 stayed = (gave-slice (0 ∷ []) tt (plain (λ _. T.the-row)), (gave-slice (1 ∷ []) tt (plain (λ _. u8)), (stay-none (λ _. bool) yes, (stay-none (λ _. S.the-row) yes, (stay-none (λ _. K.the-row) yes, tt)))))

@@ -8,6 +8,6 @@ nAt = 8
 abbrev pub placeAt : ℕ
 placeAt = 24
 
--- of `act::Acted` and `Prepared`: what stands after the answer
+-- of a struct whose first field is an answer: what stands after it
 abbrev pub afterAnswer : ℕ
 afterAnswer = 24
