@@ -16,7 +16,7 @@ ghost use Rattle.outcome.specs.Act.{handedBack, dropped, delivered};
 pub fn drop_message(s: &mut [u8], node: Node, r: u64) -> Acted
     ensures { λ a. ⌜ (a ≡ handedBack (dropped (messageAt (now (s .entry)) r) node (now (s .entry)) r)) × (now (s .exit) ≡ dropped (messageAt (now (s .entry)) r) node (now (s .entry)) r .store) ⌝ }
 {
-    let Reading::Found(envelope) = store::message(s, r) else {
+    let Reading::Found(envelope) = inbox::message(s, r) else {
         return refused(Refusal::NoMessage, node);
     };
     dropping::drop_message(s, envelope.addressee, r);
@@ -30,10 +30,10 @@ pub fn drop_message(s: &mut [u8], node: Node, r: u64) -> Acted
 pub fn deliver_message(s: &mut [u8], node: Node, free: usize, r: u64) -> Acted
     ensures { λ a. ⌜ (a ≡ handedBack (delivered (messageAt (now (s .entry)) r) node (now (s .entry)) free r)) × (now (s .exit) ≡ delivered (messageAt (now (s .entry)) r) node (now (s .entry)) free r .store) ⌝ }
 {
-    let Reading::Found(envelope) = store::message(s, r) else {
+    let Reading::Found(envelope) = inbox::message(s, r) else {
         return refused(Refusal::NoMessage, node);
     };
-    let items = record::rows(s, r as usize);
+    let items = codec::rows(s, r as usize);
     let step = deliver(node, envelope, items);
     carry_out(s, node, free, envelope.sender, step)
 }

@@ -35,10 +35,10 @@ fn unlink(s: &mut [u8], k: usize, r: usize)
     requires { ⌜ length (now s) ≡ recordCount * recordSize ⌝ }
     ensures { λ _. ⌜ recordsOf (now (s .exit)) ≡ unlinked (recordsOf (now (s .entry))) k r ⌝ }
 {
-    let first = store::head::first_of(s, k);
+    let first = head::first_of(s, k);
     let after = links::next(s, r);
     if first == r {
-        store::head::set_first_of(s, k, after);
+        head::set_first_of(s, k, after);
         return;
     }
     let before = before_from(s, r, first);
@@ -50,10 +50,10 @@ fn free(s: &mut [u8], r: usize)
     requires { ⌜ length (now s) ≡ recordCount * recordSize ⌝ }
     ensures { λ _. ⌜ recordsOf (now (s .exit)) ≡ freed (recordsOf (now (s .entry))) r ⌝ }
 {
-    let first = store::head::first_free(s);
+    let first = head::first_free(s);
     links::clear(s, r);
     links::set_next(s, r, first);
-    store::head::set_first_free(s, r);
+    head::set_first_free(s, r);
 }
 
 // Record `r` leaves the inbox of `owner`, is cleared and becomes the first free record.

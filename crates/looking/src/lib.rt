@@ -24,7 +24,7 @@ fn addressee(reading: Reading) -> usize
 fn addressee_at(s: &[u8], r: u64) -> usize
     ensures { λ a. ⌜ a ≡ addresseeOf (messageAt (now (s .entry)) r) ⌝ }
 {
-    let reading = store::message(s, r);
+    let reading = inbox::message(s, r);
     addressee(reading)
 }
 

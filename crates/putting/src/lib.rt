@@ -34,9 +34,9 @@ fn append(s: &mut [u8], k: usize, i: usize)
     requires { ⌜ length (now s) ≡ recordCount * recordSize ⌝ }
     ensures { λ _. ⌜ recordsOf (now (s .exit)) ≡ appended (recordsOf (now (s .entry))) k i ⌝ }
 {
-    let first = store::head::first_of(s, k);
+    let first = head::first_of(s, k);
     if first == 0 {
-        store::head::set_first_of(s, k, i);
+        head::set_first_of(s, k, i);
         return;
     }
     let last = last_from(s, first);
@@ -48,11 +48,11 @@ fn take_free(s: &mut [u8], envelope: Envelope, rows: [Item; item::MAX_NODES])
     requires { ⌜ length (now s) ≡ recordCount * recordSize ⌝ }
     ensures { λ _. ⌜ recordsOf (now (s .exit)) ≡ taken (recordsOf (now (s .entry))) envelope rows ⌝ }
 {
-    let n = store::head::group_size(s);
-    let i = store::head::first_free(s);
+    let n = head::group_size(s);
+    let i = head::first_free(s);
     let after = links::next(s, i);
-    store::head::set_first_free(s, after);
-    record::write(s, i, n, 0, envelope, rows);
+    head::set_first_free(s, after);
+    codec::write(s, i, n, 0, envelope, rows);
 }
 
 // The first free record takes the message, and stands at the end of the addressee's inbox. Where no record is free
@@ -63,7 +63,7 @@ pub fn put(s: &mut [u8], envelope: Envelope, rows: [Item; item::MAX_NODES])
     if s.len() != store::LENGTH {
         return;
     }
-    let i = store::head::first_free(s);
+    let i = head::first_free(s);
     if i == 0 {
         return;
     }

@@ -29,6 +29,6 @@ pub fn set_up(s: &mut [u8], n: usize)
         return;
     }
     link_free(s);
-    store::head::set_first_free(s, 1);
-    store::head::set_group_size(s, n);
+    head::set_first_free(s, 1);
+    head::set_group_size(s, n);
 }

@@ -17,14 +17,14 @@ fn head_zero(s: &[u8]) -> bool
     requires { ⌜ length (now s) ≡ recordCount * recordSize ⌝ }
     ensures { λ r. ⌜ r ≡ headZero (recordsOf (now (s .entry))) ⌝ }
 {
-    if s[store::head::SPARE_AT] != 0 {
+    if s[head::SPARE_AT] != 0 {
         return false;
     }
-    let n = store::head::group_size(s);
-    if store::head::INBOXES <= n {
+    let n = head::group_size(s);
+    if head::INBOXES <= n {
         return true;
     }
-    let from = store::head::INBOXES_AT + n * store::head::INBOX_SIZE;
+    let from = head::INBOXES_AT + n * head::INBOX_SIZE;
     endian::is_zero(&s[from..record::SIZE])
 }
 
@@ -42,7 +42,7 @@ fn follow_free(s: &[u8], n: usize) -> Walked
     requires { ⌜ length (now s) ≡ recordCount * recordSize ⌝ }
     ensures { λ w. ⌜ w ≡ walkFree (recordsOf (now (s .entry))) ⌝ }
 {
-    let first = store::head::first_free(s);
+    let first = head::first_free(s);
     let passed = head_passed();
     walk::follow(s, first, Chain::Free, n, passed)
 }
@@ -59,7 +59,7 @@ fn follow_inboxes(s: &[u8], n: usize, free: Walked) -> Walked
             return walked;
         }
         let passed = walked.passed;
-        let first = store::head::first_of(s, k);
+        let first = head::first_of(s, k);
         walked = walk::follow(s, first, Chain::Inbox(k), n, passed);
         k += 1;
     }
@@ -98,7 +98,7 @@ pub fn of(s: &[u8]) -> Survey
     if s.len() != store::LENGTH {
         return unsound();
     }
-    let n = store::head::group_size(s);
+    let n = head::group_size(s);
     if !item::valid_size(n) {
         return unsound();
     }

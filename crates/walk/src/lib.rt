@@ -30,7 +30,7 @@ fn belongs(s: &[u8], i: usize, chain: Chain, n: usize) -> bool
     match chain {
         Chain::Free => links::zero_after_next(s, i),
         Chain::Inbox(owner) => {
-            let reading = record::read(s, i, n);
+            let reading = codec::read(s, i, n);
             addressed_to(reading, n, owner)
         }
     }
