@@ -1,6 +1,7 @@
 -- `feeding::finish`: by whether anything has come of a line that was not ended.
 use native.Mathlib.Numerals.{add-one}
 use native.Mathlib.Omega.{arith}
+use mathlib.Core.Path.{_≡_}
 use borrow.Author.Tests.{eq-eqb, ne-eqb}
 use Rattle.feeding.specs.Drill.{lastOutput}
 use Rattle.feeding.specs.FeedingLaws.{line-stands, line-within}
@@ -10,7 +11,9 @@ use Rattle.feeding.proofs.finish.Tie as tie
 
 returns : tie.Need-returns
 unfolding lastOutput
-returns c = (omega arith, λ h room. rw (eq-eqb _ _ (c .if1 .taken)))
+returns c =
+    let none : c .before .before .before .before .args .last .pending .len ≡ 0 = c .if1 .taken in
+    (omega arith, λ h room. rw (eq-eqb _ _ none))
 
 returns-2 : tie.Need-returns-2
 returns-2 c = (omega arith, λ h room. absurd (omega (arith, h, c .if2 .taken)))

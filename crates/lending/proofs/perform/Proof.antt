@@ -15,7 +15,7 @@ first-nodes-requires : tie.Need-first-nodes-requires
 first-nodes-requires c κs = search needs
 
 perform-first-requires : tie.Need-perform-first-requires
-perform-first-requires c κs = rw (c .before .first-nodes .ensures) (first-few (c .before .before .before .args .n))
+perform-first-requires c κs = rw (c .before .first-nodes .ensures) (first-few _)
 
 same-length : tie.Need-same-length
 same-length c = search needs

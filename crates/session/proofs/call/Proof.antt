@@ -1,4 +1,5 @@
 -- `session::call`: by whether a group stands.
+use mathlib.Core.Path.{_≡_}
 use borrow.Author.Tests.{eq-eqb, ne-eqb}
 use Rattle.session.specs.Turn.{answered, called, unread}
 use Rattle.lending.specs.Lending.{outcomeOf}
@@ -8,7 +9,9 @@ use Rattle.session.proofs.call.Tie as tie
 
 returns : tie.Need-returns
 unfolding called unread
-returns c = (rw (eq-eqb _ _ (c .if1 .taken)), rw (eq-eqb _ _ (c .if1 .taken)))
+returns c =
+    let none : c .before .before .args .drill .n ≡ 0 = c .if1 .taken in
+    (rw (eq-eqb _ _ none), rw (eq-eqb _ _ none))
 
 perform-requires : tie.Need-perform-requires
 perform-requires c κs = search needs
