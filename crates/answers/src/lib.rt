@@ -7,13 +7,12 @@ ghost use lib.ListN.{length};
 ghost use lib.Seq.{sets};
 ghost use Rattle.decimal.specs.Digits.{decimalOf};
 ghost use Rattle.decimal.specs.Place.{placeAfter, placed};
-ghost use Rattle.protocol.specs.Answer.{refusalNumber};
 ghost use Rattle.answers.specs.Output.{Written, answerBytes, itemBytes, lineRoom, outputLine, replyBytes, tagBytes};
 use decimal::put_number;
 use item::Item;
 use item::Tag;
 use protocol::Answer;
-use protocol::Refusal;
+use refusals::refusal_number;
 
 // What an output line says after its count.
 pub enum Reply {
@@ -111,25 +110,4 @@ fn put_text(out: &mut [u8], at: usize, text: &[u8]) -> usize
         i += 1;
     }
     at + i
-}
-
-// Document 01's number of a refusal.
-fn refusal_number(why: Refusal) -> u64
-    ensures { λ r. ⌜ r ≡ refusalNumber why ⌝ }
-{
-    match why {
-        Refusal::GroupSize => 1,
-        Refusal::StoreLength => 2,
-        Refusal::Unsound => 3,
-        Refusal::NoNode => 4,
-        Refusal::WrongStage => 5,
-        Refusal::AtLargest => 6,
-        Refusal::NoRoom => 7,
-        Refusal::NoMessage => 8,
-        Refusal::NotTaken => 9,
-        Refusal::Stale => 10,
-        Refusal::Counted => 11,
-        Refusal::LowerRank => 12,
-        Refusal::OtherTag => 13,
-    }
 }

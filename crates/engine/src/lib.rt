@@ -8,7 +8,6 @@ use message::Envelope;
 use message::Message;
 pub use node::fresh_node;
 use protocol::Node;
-use protocol::Refusal;
 use protocol::Step;
 use reply_confirm::on_confirm;
 use reply_store::on_store;
@@ -18,7 +17,6 @@ pub use retrying::retry;
 use storing::on_stored;
 pub use writing::write;
 ghost use mathlib.Core.Path.{_≡_};
-ghost use Rattle.protocol.specs.Answer.{refusalNumber};
 ghost use Rattle.protocol.specs.Deliver.{deliverStep};
 
 // What the node makes of a message. `items` are the rows of a Table; the other kinds do not look at them.
@@ -47,26 +45,5 @@ pub fn deliver(node: Node, envelope: Envelope, items: [Item; Node::MAX_ROWS]) ->
         } => on_confirmed(node, sender, incarnation, other, attempt, item),
         Message::Fetch => on_fetch(node, incarnation),
         Message::Table { other } => on_table(node, sender, incarnation, other, items),
-    }
-}
-
-// Document 01's number of a refusal.
-pub fn refusal_number(why: Refusal) -> u64
-    ensures { λ r. ⌜ r ≡ refusalNumber why ⌝ }
-{
-    match why {
-        Refusal::GroupSize => 1,
-        Refusal::StoreLength => 2,
-        Refusal::Unsound => 3,
-        Refusal::NoNode => 4,
-        Refusal::WrongStage => 5,
-        Refusal::AtLargest => 6,
-        Refusal::NoRoom => 7,
-        Refusal::NoMessage => 8,
-        Refusal::NotTaken => 9,
-        Refusal::Stale => 10,
-        Refusal::Counted => 11,
-        Refusal::LowerRank => 12,
-        Refusal::OtherTag => 13,
     }
 }

@@ -4,7 +4,6 @@
 use engine::crash;
 use engine::deliver;
 use engine::fresh_node;
-use engine::refusal_number;
 use engine::start;
 use engine::write;
 use item::Attempt;
@@ -19,6 +18,7 @@ use protocol::Answer;
 use protocol::Node;
 use protocol::Sends;
 use protocol::Step;
+use refusals::refusal_number;
 
 // The nodes of a group of three.
 struct Trio {
