@@ -78,9 +78,9 @@ pub fn feed(piece: &[u8], start: Progress, store: &mut [u8], out: &mut [u8]) -> 
         next: next,
         at: at,
         progress: Progress {
-            count: count,
-            pending: pending,
-            drill: drill,
+            count,
+            pending,
+            drill,
         },
     }
 }
