@@ -6,7 +6,8 @@ use feeding::finish;
 use libc::STDIN_FILENO;
 use libc::STDOUT_FILENO;
 
-// Takes a piece of the script and prints its answers, in as many turns as `out` has room for.
+// Takes a piece of the script and prints its answers, in as many turns as `out` has room for. It ends early only where
+// no count is left for another line. An output that cannot be written is passed over: a program has no exit status.
 fn take_piece(piece: &[u8], start: Progress, store: &mut [u8], out: &mut [u8]) -> Progress {
     let mut progress = start;
     let mut from = 0;

@@ -54,8 +54,7 @@ pub fn feed(piece: &[u8], start: Progress, store: &mut [u8], out: &mut [u8]) -> 
     while next < piece.len() {
         let b = piece[next];
         if b != b'\n' {
-            let longer = pending.push(b);
-            pending = longer;
+            pending = pending.push(b);
             next += 1;
             continue;
         }
@@ -66,9 +65,8 @@ pub fn feed(piece: &[u8], start: Progress, store: &mut [u8], out: &mut [u8]) -> 
             break;
         }
         let turn = take_line(drill, store, read_pending(pending));
-        let after = turn.drill;
         let reply = turn.reply;
-        drill = after;
+        drill = turn.drill;
         pending = Pending::none();
         count += 1;
         at = print_line(out, at, count, reply);
@@ -78,9 +76,9 @@ pub fn feed(piece: &[u8], start: Progress, store: &mut [u8], out: &mut [u8]) -> 
         next: next,
         at: at,
         progress: Progress {
-            count: count,
-            pending: pending,
-            drill: drill,
+            count,
+            pending,
+            drill,
         },
     }
 }
