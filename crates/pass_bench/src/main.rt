@@ -18,7 +18,7 @@ fn pass(s: &[u8]) -> usize {
 }
 
 fn main() {
-    let bytes = [1u8; 65280];
+    let bytes = [1u8; store::LENGTH];
     io::print_decimal(STDOUT_FILENO, pass(&bytes) as u64);
     io::write_all(STDOUT_FILENO, b"\n");
 }

@@ -59,7 +59,7 @@ fn print(name: &[u8], sound: usize) {
 }
 
 fn main() {
-    let mut bytes = [0u8; 65280];
+    let mut bytes = [0u8; store::LENGTH];
     setup::set_up(&mut bytes, NODES);
     print(b"empty ", survey(&bytes));
     fill(&mut bytes, HALF);

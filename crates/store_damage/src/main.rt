@@ -120,13 +120,13 @@ fn print_addresses(s: &mut [u8]) {
 }
 
 fn main() {
-    let mut bytes = [0u8; 65280];
+    let mut bytes = [0u8; store::LENGTH];
     print(&bytes, b"zeros");
     setup::set_up(&mut bytes, NODES);
     print(&bytes, b"set up");
     fill(&mut bytes);
     print(&bytes, b"with messages");
-    print(&bytes[0..65279], b"one byte short");
+    print(&bytes[0..store::LENGTH - 1], b"one byte short");
     print_chains(&mut bytes);
     print_heads(&mut bytes);
     print_unused(&mut bytes);
