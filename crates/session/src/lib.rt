@@ -1,40 +1,15 @@
-// A drill (document 01, Drill program) between two lines, and what one line does to its group of nodes and its store.
-// Everything is proved, no public function has a `requires`, and each gives what one definition of specs/ says.
+// What one line of a drill does to its group of nodes and its store. Everything is proved, no public function has a
+// `requires`, and each gives what one definition of the crate `progress` says.
 use answers::Reply;
+use progress::Drill;
+use progress::Turn;
 use protocol::Answer;
 use protocol::Event;
-use protocol::Node;
 use script::Line;
 ghost use mathlib.Core.Path.{_≡_};
 ghost use lib.ListN.{take};
 ghost use Rattle.protocol.specs.Operation as operation;
-ghost use Rattle.session.specs.Turn.{begun, called, lineDone, noGroup, sizeAfter};
-
-// A drill between two lines: how many nodes its group has, 0 while no group stands, and the nodes held, of which the
-// first ones are the group's table. The store is lent beside it.
-pub struct Drill {
-    pub n: u64,
-    pub nodes: [Node; Node::MAX_NODES],
-}
-
-// What a line prints after its count, and the drill afterwards.
-pub struct Turn {
-    pub reply: Reply,
-    pub drill: Drill,
-}
-
-impl Drill {
-    // As a drill begins: no group stands.
-    pub fn none() -> Drill
-        ensures { λ r. ⌜ r ≡ noGroup ⌝ }
-    {
-        let node = act::no_node();
-        Drill {
-            n: 0,
-            nodes: [node; Node::MAX_NODES],
-        }
-    }
-}
+ghost use Rattle.progress.specs.Turn.{begun, called, lineDone, sizeAfter};
 
 // What a line does.
 pub fn take_line(drill: Drill, store: &mut [u8], line: Line) -> Turn

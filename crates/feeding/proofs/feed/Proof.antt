@@ -6,8 +6,8 @@ use mathlib.Core.Path.{_≡_, refl, sym, ap, _∙_}
 use mathlib.Core.Logic.{inl, inr}
 use lib.ListN.{length}
 use Rattle.answers.specs.Output.{lineRoom}
-use Rattle.feeding.specs.Feeding.{progressOutput}
-use Rattle.feeding.specs.FeedingLaws.{Upto, one-byte, one-line, line-within}
+use Rattle.progress.specs.Feeding.{progressOutput}
+use Rattle.progress.specs.FeedingLaws.{Upto, one-byte, one-line, line-within}
 use borrow.Author.Needs.{needs}
 use Rattle.feeding.proofs.feed.Statement.{statement}
 use Rattle.feeding.proofs.feed.Tie as tie

@@ -1,5 +1,5 @@
 -- `session::begin`: what the set-up gives, and the size by its answer.
-use Rattle.session.specs.Turn.{answered, begun}
+use Rattle.progress.specs.Turn.{answered, begun}
 use Rattle.lending.specs.Lending.{outcomeOf}
 use borrow.Author.Needs.{needs}
 use Rattle.session.proofs.begin.Statement.{statement}

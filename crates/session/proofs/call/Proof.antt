@@ -1,7 +1,7 @@
 -- `session::call`: by whether a group stands.
 use mathlib.Core.Path.{_≡_}
 use borrow.Author.Tests.{eq-eqb, ne-eqb}
-use Rattle.session.specs.Turn.{answered, called, unread}
+use Rattle.progress.specs.Turn.{answered, called, unread}
 use Rattle.lending.specs.Lending.{outcomeOf}
 use borrow.Author.Needs.{needs}
 use Rattle.session.proofs.call.Statement.{statement}

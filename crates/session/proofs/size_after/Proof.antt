@@ -1,6 +1,6 @@
 -- `session::size_after` by the answer's cases.
 use Rattle.protocol.specs.Operation.{isRefused}
-use Rattle.session.specs.Turn.{sizeAfter}
+use Rattle.progress.specs.Turn.{sizeAfter}
 use borrow.Author.Needs.{needs}
 use Rattle.session.proofs.size_after.Statement.{statement}
 use Rattle.session.proofs.size_after.Tie as tie

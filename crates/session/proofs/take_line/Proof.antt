@@ -1,5 +1,5 @@
 -- `session::take_line` by what the line asks for.
-use Rattle.session.specs.Turn.{lineDone, unread}
+use Rattle.progress.specs.Turn.{lineDone, unread}
 use borrow.Author.Needs.{needs}
 use Rattle.session.proofs.take_line.Statement.{statement}
 use Rattle.session.proofs.take_line.Tie as tie

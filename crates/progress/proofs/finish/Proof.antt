@@ -1,13 +1,13 @@
--- `feeding::finish`: by whether anything has come of a line that was not ended.
+-- `progress::finish`: by whether anything has come of a line that was not ended.
 use native.Mathlib.Numerals.{add-one}
 use native.Mathlib.Omega.{arith}
 use mathlib.Core.Path.{_≡_}
 use borrow.Author.Tests.{eq-eqb, ne-eqb}
-use Rattle.feeding.specs.Drill.{lastOutput}
-use Rattle.feeding.specs.FeedingLaws.{line-stands, line-within}
+use Rattle.progress.specs.Drill.{lastOutput}
+use Rattle.progress.specs.FeedingLaws.{line-stands, line-within}
 use borrow.Author.Needs.{needs}
-use Rattle.feeding.proofs.finish.Statement.{statement}
-use Rattle.feeding.proofs.finish.Tie as tie
+use Rattle.progress.proofs.finish.Statement.{statement}
+use Rattle.progress.proofs.finish.Tie as tie
 
 returns : tie.Need-returns
 unfolding lastOutput

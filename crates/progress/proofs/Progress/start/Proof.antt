@@ -1,8 +1,8 @@
--- `feeding::Progress::start` is `atStart`.
-use Rattle.feeding.specs.Feeding.{atStart}
+-- `progress::Progress::start` is `atStart`.
+use Rattle.progress.specs.Feeding.{atStart}
 use borrow.Author.Needs.{needs}
-use Rattle.feeding.proofs.Progress.start.Statement.{statement}
-use Rattle.feeding.proofs.Progress.start.Tie as tie
+use Rattle.progress.proofs.Progress.start.Statement.{statement}
+use Rattle.progress.proofs.Progress.start.Tie as tie
 
 none-requires : tie.Need-none-requires
 none-requires c κs = search needs

@@ -13,8 +13,8 @@ use Rattle.protocol.specs.declared.Answer.{Answer}
 use Rattle.protocol.specs.declared.Event.{Event}
 use Rattle.script.specs.declared.Line.{Line}
 use Rattle.script.specs.declared.Line.the-variants.{SetUp, Call, Unread}
-use Rattle.session.specs.declared.Drill.{Drill}
-use Rattle.session.specs.declared.Turn.{Turn}
+use Rattle.progress.specs.declared.Drill.{Drill}
+use Rattle.progress.specs.declared.Turn.{Turn}
 
 -- as the drill begins: no group
 unfoldable pub noGroup : Drill

@@ -11,10 +11,10 @@ use Rattle.answers.specs.Output.{outputLine, lineRoom}
 use Rattle.decimal.specs.Bytes.{lineFeed}
 use Rattle.script.specs.Pending.{noneYet, pushed, pendingLine}
 use Rattle.script.specs.declared.Pending.{Pending}
-use Rattle.session.specs.Turn.{Done, noGroup, lineDone}
-use Rattle.feeding.specs.Drill.{lastOutput}
-use Rattle.session.specs.declared.Drill.{Drill}
-use Rattle.feeding.specs.declared.Progress.{Progress}
+use Rattle.progress.specs.Turn.{Done, noGroup, lineDone}
+use Rattle.progress.specs.Drill.{lastOutput}
+use Rattle.progress.specs.declared.Drill.{Drill}
+use Rattle.progress.specs.declared.Progress.{Progress}
 
 -- where the drill begins
 unfoldable pub atStart : Progress

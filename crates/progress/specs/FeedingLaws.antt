@@ -21,11 +21,11 @@ use Rattle.script.specs.declared.Pending.{Pending}
 use Rattle.record.specs.Layout.{recordSize}
 use Rattle.script.specs.Reading.{gathered, gathered-length}
 use Rattle.store.specs.Records.{recordCount}
-use Rattle.session.specs.Turn.{Done, noGroup, lineDone}
-use Rattle.feeding.specs.Drill.{lastOutput, outputFrom, drillOutput}
-use Rattle.feeding.specs.Feeding.{atStart, pendingOutput, progressOutput}
-use Rattle.session.specs.declared.Drill.{Drill}
-use Rattle.session.specs.declared.Turn.{Turn}
+use Rattle.progress.specs.Turn.{Done, noGroup, lineDone}
+use Rattle.progress.specs.Drill.{lastOutput, outputFrom, drillOutput}
+use Rattle.progress.specs.Feeding.{atStart, pendingOutput, progressOutput}
+use Rattle.progress.specs.declared.Drill.{Drill}
+use Rattle.progress.specs.declared.Turn.{Turn}
 
 -- after the first i bytes of a piece: what is printed stands in the first `at` bytes of `out`, and what is left to come
 -- prints the rest

@@ -11,8 +11,8 @@ use Rattle.decimal.specs.Bytes.{lineFeed}
 use Rattle.script.specs.Line.{lineOf}
 use Rattle.store.specs.Records.{recordCount}
 use Rattle.record.specs.Layout.{recordSize}
-use Rattle.session.specs.Turn.{Done, noGroup, lineDone}
-use Rattle.session.specs.declared.Drill.{Drill}
+use Rattle.progress.specs.Turn.{Done, noGroup, lineDone}
+use Rattle.progress.specs.declared.Drill.{Drill}
 
 -- "an unended last line" prints `unread`
 unfoldable pub lastOutput : ℕ → ℕ → List ℕ

@@ -1,3 +1,4 @@
+pub mod Turn
 pub mod Drill
 pub mod Feeding
 pub mod FeedingLaws
