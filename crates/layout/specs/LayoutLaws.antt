@@ -101,10 +101,10 @@ pub with-groups : (r : List ℕ) (next : ℕ) (f : Fields) (items : List Item) �
     ≡ withPart recordSize r nextAt (layoutBytes next f items)
 unfolding withNumber
 with-groups r next f items hr hi =
-    let lr : length (rowsBytes items) ≡ 240 = length-rows items ∙ ap (λ (n : ℕ). n * rowSize) hi in
-    let l : length (bytes 2 next ++ fieldBytes f) ≡ 32 = length-append (bytes 2 next) (fieldBytes f) ∙ (λ i. length-bytes 2 next i + length-fields f i) in
+    let lr : length (rowsBytes items) ≡ maxNodes * rowSize = length-rows items ∙ ap (λ (n : ℕ). n * rowSize) hi in
+    let l : length (bytes 2 next ++ fieldBytes f) ≡ rowsAt = length-append (bytes 2 next) (fieldBytes f) ∙ (λ i. length-bytes 2 next i + length-fields f i) in
     rw (with-joined 2 fieldsSize r 0 (bytes 2 next) (fieldBytes f) (length-bytes 2 next) (length-fields f) (omega arith)) (
-    rw (with-joined 32 240 r 0 (bytes 2 next ++ fieldBytes f) (rowsBytes items) l lr (omega arith))
+    rw (with-joined rowsAt (maxNodes * rowSize) r 0 (bytes 2 next ++ fieldBytes f) (rowsBytes items) l lr (omega arith))
     (ap (withPart recordSize r nextAt) (append-assoc (bytes 2 next) (fieldBytes f) (rowsBytes items))))
 
 pub length-layout : (next : ℕ) (f : Fields) (items : List Item) → length items ≡ maxNodes → length (layoutBytes next f items) ≡ recordSize

@@ -388,7 +388,7 @@ unfolding WritesBack recordBytes heldRows rowsOf nextOf zeroAfterRows
 writes-back n r e b q =
     let a : ReadAs n r e = read-as n r e q in
     let m : Message = a .message in
-    let l : length r ≡ 272 = a .long in
+    let l : length r ≡ recordSize = a .long in
     let f : Fields = fieldsIn r in
     let t : rowsBytes (padded maxNodes (take (rowsHeld m n) (itemsIn maxNodes r rowsAt))) ≡ drop rowsAt r = rows-again maxNodes (rowsHeld m n) r rowsAt b l (a .zeroed) in
     ap (λ (x : Envelope). recordBytes n (nextOf r) x (rowsOf r)) (a .is)
