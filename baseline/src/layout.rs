@@ -27,7 +27,9 @@ pub type Record = [u8; RECORD_BYTES];
 pub type Rows = [Item; MAX_NODES];
 
 /// The six kinds of message. "Other" is the incarnation of the node spoken to,
-/// as the sender knows it.
+/// as the sender knows it. A letter lives on the stack for one call, so a
+/// table's rows are kept in place and not on the heap.
+#[allow(clippy::large_enum_variant)]
 #[derive(Clone, Copy, Debug, PartialEq, Eq)]
 pub enum Message {
     Store { attempt: Attempt, item: Item },

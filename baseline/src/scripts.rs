@@ -3,10 +3,11 @@
 //! sound or damaged; and a search for the smallest script that still shows a
 //! difference.
 
-use crate::drill::Drill;
+use crate::drill::{self, Drill, Line};
+use crate::group::Call;
 use crate::layout::{self, Letter, Message, Record, RECORD_BYTES};
 use crate::node::{Phase, Stage};
-use crate::store::RECORDS;
+use crate::store::{self, Store, RECORDS, STORE_BYTES};
 use crate::{Attempt, Incarnation, Index, Item, MAX_NODES};
 
 /// A small random number generator (splitmix64): the same seed gives the same
@@ -140,6 +141,36 @@ pub fn script_for(random: &mut Random, n: u8, lines: usize) -> Vec<u8> {
     if author.random.percent(5) {
         let tail = *author.random.pick(&[&b"d 1"[..], b"n 3", b"x", b" "]);
         author.script.extend_from_slice(tail);
+    }
+    author.script
+}
+
+/// A script of whole writes, one node after the other, each message delivered
+/// and dropped, while about `held` more messages lie in the store. It has at
+/// least as many lines and no line that is refused as unread; for measuring.
+pub fn settling(n: u8, held: usize, lines: usize) -> Vec<u8> {
+    let mut random = Random::new(1);
+    let mut author = Author::new(&mut random);
+    author.habits.clean = 100;
+    author.line(format_args!("n {n}"));
+    let absent = n - 1;
+    if held > 0 {
+        author.line(format_args!("c {absent}"));
+        author.line(format_args!("s {absent}"));
+    }
+    while author.arrivals.len() + usize::from(n) <= held {
+        author.line(format_args!("r {absent}"));
+    }
+    author.hold_back();
+    for turn in 0.. {
+        if author.lines >= lines {
+            break;
+        }
+        let node = turn % u64::from(absent);
+        author.line(format_args!("w {node} {turn}"));
+        while let Some(record) = author.fresh().first() {
+            author.deliver_record(*record);
+        }
     }
     author.script
 }
@@ -407,6 +438,25 @@ pub fn store(random: &mut Random, lines: usize) -> (u8, Vec<u8>) {
     (nodes.len() as u8, store.to_vec())
 }
 
+/// A sound store of n nodes with so many messages of all kinds, one after the
+/// other, at all nodes in turn.
+pub fn store_with(n: u8, held: usize) -> Vec<u8> {
+    let mut random = Random::new(1);
+    let mut bytes = vec![0; STORE_BYTES];
+    let set_up = store::set_up(&mut bytes, n);
+    debug_assert!(set_up.is_ok());
+    if let Ok(mut store) = Store::open(&mut bytes) {
+        for (turn, kind) in (0..held as u64).zip((1..=6).cycle()) {
+            let addressee = (turn % u64::from(n)) as u8;
+            let sender = (addressee + 1) % n;
+            let letter = Letter { sender, addressee, ..letter(&mut random, kind, n) };
+            // Beyond 239 messages there is no room, and the store stays full.
+            let _ = store.put(&letter);
+        }
+    }
+    bytes
+}
+
 /// Damage a store in one of many ways. A few of these leave it sound.
 pub fn damage_store(random: &mut Random, store: &mut Vec<u8>) {
     let (one, two) = (random.below(RECORDS), random.below(RECORDS));
@@ -475,10 +525,23 @@ pub fn record(random: &mut Random, kind: u8, n: u8) -> Record {
     record
 }
 
-/// The smallest script found, by leaving out lines, that still shows the
-/// difference.
+/// The smallest script found that still shows the difference: lines are left
+/// out, and the records named later are numbered down as if their messages
+/// had never been.
 pub fn smallest(script: &[u8], mut differs: impl FnMut(&[u8]) -> bool) -> Vec<u8> {
-    let mut lines: Vec<&[u8]> = script.split_inclusive(|byte| *byte == b'\n').collect();
+    let ended = script.split_inclusive(|byte| *byte == b'\n');
+    let mut lines: Vec<Vec<u8>> = ended.map(<[u8]>::to_vec).collect();
+    loop {
+        leave_out_runs(&mut lines, &mut differs);
+        match leave_out_and_renumber(&lines, &mut differs) {
+            Some(less) => lines = less,
+            None => return lines.concat(),
+        }
+    }
+}
+
+/// Leave out runs of lines, long ones first, then shorter ones.
+fn leave_out_runs(lines: &mut Vec<Vec<u8>>, differs: &mut impl FnMut(&[u8]) -> bool) {
     let mut run = lines.len();
     while run > 0 {
         let mut at = 0;
@@ -486,12 +549,38 @@ pub fn smallest(script: &[u8], mut differs: impl FnMut(&[u8]) -> bool) -> Vec<u8
             let end = (at + run).min(lines.len());
             let less = [&lines[..at], &lines[end..]].concat();
             if differs(&less.concat()) {
-                lines = less;
+                *lines = less;
             } else {
                 at = end;
             }
         }
         run /= 2;
     }
-    lines.concat()
+}
+
+/// Leave out one line, which may have sent as many messages as there are
+/// other nodes; the script without it, if that can be done.
+fn leave_out_and_renumber(
+    lines: &[Vec<u8>],
+    differs: &mut impl FnMut(&[u8]) -> bool,
+) -> Option<Vec<Vec<u8>>> {
+    let mut choices = (0..lines.len()).flat_map(|at| (1..MAX_NODES as u64).map(move |by| (at, by)));
+    choices.find_map(|(at, by)| {
+        let later = lines[at + 1..].iter().map(|line| numbered_down(line, by));
+        let less: Vec<Vec<u8>> = lines[..at].iter().cloned().chain(later).collect();
+        differs(&less.concat()).then_some(less)
+    })
+}
+
+/// The line, its record's number lowered if it names one.
+fn numbered_down(line: &[u8], by: u64) -> Vec<u8> {
+    match drill::parse(line.strip_suffix(b"\n").unwrap_or(line)) {
+        Some(Line::Call(Call::Deliver { record })) if record > by => {
+            format!("d {}\n", record - by).into_bytes()
+        }
+        Some(Line::Call(Call::Drop { record })) if record > by => {
+            format!("x {}\n", record - by).into_bytes()
+        }
+        _ => line.to_vec(),
+    }
 }
