@@ -94,7 +94,7 @@ impl Habits {
             start: *random.pick(&[2, 4, 8]),
             drop: *random.pick(&[0, 2, 10]),
             deliver: *random.pick(&[30, 60, 90]),
-            story: *random.pick(&[0, 1, 4]),
+            story: *random.pick(&[0, 2, 8, 20]),
             odd: *random.pick(&[0, 1, 3]),
             order: *random.pick(&[Order::Oldest, Order::Oldest, Order::Newest, Order::Any]),
             repeat: *random.pick(&[0, 5, 25]),
@@ -147,7 +147,7 @@ pub fn script_for(random: &mut Random, n: u8, lines: usize) -> Vec<u8> {
 
 /// A script of whole writes, one node after the other, each message delivered
 /// and dropped, while about `held` more messages lie in the store. It has at
-/// least as many lines and no line that is refused as unread; for measuring.
+/// least as many lines, all of them read; for measuring.
 pub fn settling(n: u8, held: usize, lines: usize) -> Vec<u8> {
     let mut random = Random::new(1);
     let mut author = Author::new(&mut random);
@@ -225,9 +225,9 @@ impl<'a> Author<'a> {
         let sum = write + retry + crash + start + drop + deliver + story + odd;
         let mut left = self.random.below(sum);
         let mut chosen = |weight: usize| {
-            let here = left < weight;
-            left = left.wrapping_sub(if here { 0 } else { weight });
-            here
+            let passed = left >= weight;
+            left -= if passed { weight } else { 0 };
+            !passed
         };
         if chosen(deliver) {
             self.deliver();
@@ -236,14 +236,12 @@ impl<'a> Author<'a> {
         } else if chosen(write) {
             self.write();
         } else if chosen(retry) {
-            let node = self.node(|phase| !matches!(phase, Phase::Down | Phase::Up(Stage::Idle)));
-            self.line(format_args!("r {node}"));
+            self.retry();
         } else if chosen(crash) {
-            let node = self.node(|phase| !matches!(phase, Phase::Down | Phase::Up(Stage::Idle)));
+            let node = self.node(is_busy);
             self.line(format_args!("c {node}"));
         } else if chosen(start) {
-            let node = self.node(|phase| matches!(phase, Phase::Down));
-            self.line(format_args!("s {node}"));
+            self.start();
         } else if chosen(drop) {
             let record = self.random.any(&self.arrivals).unwrap_or(1);
             self.line(format_args!("x {record}"));
@@ -252,11 +250,34 @@ impl<'a> Author<'a> {
         }
     }
 
+    /// Start what is down, retry what is stuck, or write.
+    fn go_on(&mut self) {
+        let phases: Vec<Phase> = self.drill.state().0.iter().map(|node| node.phase).collect();
+        match self.random.below(3) {
+            0 if phases.contains(&Phase::Down) => self.start(),
+            1 if phases.iter().any(is_busy) => self.retry(),
+            _ => self.write(),
+        }
+    }
+
+    fn start(&mut self) {
+        let node = self.node(|phase| *phase == Phase::Down);
+        self.line(format_args!("s {node}"));
+    }
+
+    fn retry(&mut self) {
+        let node = self.node(is_busy);
+        self.line(format_args!("r {node}"));
+    }
+
     /// Mostly a node in a wanted phase, else any number about the group's size.
-    fn node(&mut self, wanted: impl Fn(Phase) -> bool) -> u64 {
+    fn node(&mut self, wanted: impl Fn(&Phase) -> bool) -> u64 {
         let (nodes, _) = self.drill.state();
-        let fitting: Vec<u64> =
-            nodes.iter().filter(|node| wanted(node.phase)).map(|node| node.number.into()).collect();
+        let fitting: Vec<u64> = nodes
+            .iter()
+            .filter(|node| wanted(&node.phase))
+            .map(|node| node.number.into())
+            .collect();
         let any = self.random.below(nodes.len() + 1) as u64;
         match self.random.any(&fitting) {
             Some(node) if self.random.percent(85) => node,
@@ -265,7 +286,7 @@ impl<'a> Author<'a> {
     }
 
     fn write(&mut self) {
-        let node = self.node(|phase| phase == Phase::Up(Stage::Idle));
+        let node = self.node(|phase| *phase == Phase::Up(Stage::Idle));
         let tag = match self.random.below(20) {
             0 => u64::MAX,
             1 => self.random.number(),
@@ -275,8 +296,12 @@ impl<'a> Author<'a> {
     }
 
     /// Deliver a message: mostly one not delivered yet, in the script's order.
+    /// If there is none, mostly begin something new.
     fn deliver(&mut self) {
         let fresh = self.fresh();
+        if fresh.is_empty() && self.random.percent(80) {
+            return self.go_on();
+        }
         let first = match self.habits.order {
             Order::Oldest => fresh.first().copied(),
             Order::Newest => fresh.last().copied(),
@@ -308,7 +333,7 @@ impl<'a> Author<'a> {
     /// late, and then another node's return.
     fn story(&mut self) {
         self.tidy();
-        let node = self.node(|phase| phase == Phase::Up(Stage::Idle));
+        let node = self.node(|phase| *phase == Phase::Up(Stage::Idle));
         match self.random.below(3) {
             0 => {
                 let tag = self.random.below(self.habits.tags);
@@ -325,7 +350,7 @@ impl<'a> Author<'a> {
                     self.deliver();
                 }
                 late.into_iter().for_each(|record| self.deliver_record(record));
-                let other = self.node(|phase| phase == Phase::Up(Stage::Idle));
+                let other = self.node(|phase| *phase == Phase::Up(Stage::Idle));
                 self.come_back(other);
             }
         }
@@ -404,6 +429,11 @@ impl<'a> Author<'a> {
             }
         }
     }
+}
+
+/// Does the node wait for answers?
+fn is_busy(phase: &Phase) -> bool {
+    !matches!(phase, Phase::Down | Phase::Up(Stage::Idle))
 }
 
 /// Numbers at and beyond the ends of 16, 32 and 64 bits.
