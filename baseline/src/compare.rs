@@ -6,6 +6,7 @@ use std::fmt;
 use crate::contender::Contender;
 use crate::layout::RECORD_BYTES;
 use crate::scripts::{self, Random};
+use crate::smallest::smallest;
 use crate::store::STORE_BYTES;
 
 /// How much is compared.
@@ -89,7 +90,7 @@ impl Comparison<'_> {
         if one == two {
             return None;
         }
-        let script = scripts::smallest(script, |less| {
+        let script = smallest(script, |less| {
             let (one, two) = self.answers(less);
             one != two
         });

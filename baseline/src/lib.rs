@@ -4,7 +4,7 @@
 //! message record, `store` keeps 240 of them on chains, `node` decides what one
 //! node does, `group` joins a table of nodes with a store, and `drill` runs a
 //! script of calls. `scripts` makes scripts, stores and records to test with,
-//! `compare` looks for a difference between two implementations, and `race`
+//! `smallest` makes a failing script small, `compare` looks for a difference between two implementations, and `race`
 //! measures them.
 
 #![forbid(unsafe_code)]
@@ -17,6 +17,7 @@ pub mod layout;
 pub mod node;
 pub mod race;
 pub mod scripts;
+pub mod smallest;
 pub mod store;
 
 /// The greatest number of nodes in a group, and the number of rows a node keeps.

@@ -3,8 +3,7 @@
 //! sound or damaged; and a search for the smallest script that still shows a
 //! difference.
 
-use crate::drill::{self, Drill, Line};
-use crate::group::Call;
+use crate::drill::Drill;
 use crate::layout::{self, Letter, Message, Record, RECORD_BYTES};
 use crate::node::{Phase, Stage};
 use crate::store::{self, Store, RECORDS, STORE_BYTES};
@@ -329,31 +328,64 @@ impl<'a> Author<'a> {
     }
 
     /// A longer course of calls about one node, broken off now and then: a
-    /// write, a return, or two writes of one index of which the first comes
-    /// late, and then another node's return.
+    /// write, a return, a row that parts and then another node's return, or a
+    /// peer's return in the midst of a write.
     fn story(&mut self) {
         self.tidy();
         let node = self.node(|phase| *phase == Phase::Up(Stage::Idle));
-        match self.random.below(3) {
+        match self.random.below(5) {
             0 => {
                 let tag = self.random.below(self.habits.tags);
                 self.line(format_args!("w {node} {tag}"));
                 self.exchange(node);
             }
             1 => self.come_back(node),
+            2 => {
+                let clean = std::mem::take(&mut self.habits.clean);
+                self.repeat_after_return(node);
+                self.habits.clean = clean;
+            }
             _ => {
-                self.line(format_args!("w {node} 1"));
-                let late = self.hold_back();
-                self.come_back(node);
-                self.line(format_args!("w {node} 2"));
-                for _ in 0..1 + self.random.below(3) {
-                    self.deliver();
+                self.part(node);
+                if self.random.percent(40) {
+                    let second = self.node(|phase| *phase == Phase::Up(Stage::Idle));
+                    self.part(second);
                 }
-                late.into_iter().for_each(|record| self.deliver_record(record));
                 let other = self.node(|phase| *phase == Phase::Up(Stage::Idle));
                 self.come_back(other);
             }
         }
+    }
+
+    /// Two writes of one index: the first comes late and only to some.
+    fn part(&mut self, node: u64) {
+        self.line(format_args!("w {node} 1"));
+        let late = self.hold_back();
+        self.come_back(node);
+        self.line(format_args!("w {node} 2"));
+        for _ in 0..1 + self.random.below(3) {
+            self.deliver();
+        }
+        let some = 1 + self.random.below(late.len() + 1);
+        late.into_iter().take(some).for_each(|record| self.deliver_record(record));
+        if self.random.percent(30) {
+            self.exchange(node);
+            self.line(format_args!("w {node} 3"));
+            self.deliver();
+        }
+    }
+
+    /// A peer restarts while the node writes, and then everything that was
+    /// sent comes again.
+    fn repeat_after_return(&mut self, node: u64) {
+        self.line(format_args!("w {node} 4"));
+        for _ in 0..self.random.below(30) {
+            self.deliver();
+        }
+        let sent = self.arrivals.clone();
+        let peer = self.node(|phase| *phase == Phase::Up(Stage::Idle));
+        self.come_back(peer);
+        sent.into_iter().for_each(|record| self.deliver_record(record));
     }
 
     fn come_back(&mut self, node: u64) {
@@ -553,64 +585,4 @@ pub fn record(random: &mut Random, kind: u8, n: u8) -> Record {
     layout::put_letter(&mut record, &letter(random, kind, n), n);
     layout::set_next(&mut record, random.number() as u16);
     record
-}
-
-/// The smallest script found that still shows the difference: lines are left
-/// out, and the records named later are numbered down as if their messages
-/// had never been.
-pub fn smallest(script: &[u8], mut differs: impl FnMut(&[u8]) -> bool) -> Vec<u8> {
-    let ended = script.split_inclusive(|byte| *byte == b'\n');
-    let mut lines: Vec<Vec<u8>> = ended.map(<[u8]>::to_vec).collect();
-    loop {
-        leave_out_runs(&mut lines, &mut differs);
-        match leave_out_and_renumber(&lines, &mut differs) {
-            Some(less) => lines = less,
-            None => return lines.concat(),
-        }
-    }
-}
-
-/// Leave out runs of lines, long ones first, then shorter ones.
-fn leave_out_runs(lines: &mut Vec<Vec<u8>>, differs: &mut impl FnMut(&[u8]) -> bool) {
-    let mut run = lines.len();
-    while run > 0 {
-        let mut at = 0;
-        while at < lines.len() {
-            let end = (at + run).min(lines.len());
-            let less = [&lines[..at], &lines[end..]].concat();
-            if differs(&less.concat()) {
-                *lines = less;
-            } else {
-                at = end;
-            }
-        }
-        run /= 2;
-    }
-}
-
-/// Leave out one line, which may have sent as many messages as there are
-/// other nodes; the script without it, if that can be done.
-fn leave_out_and_renumber(
-    lines: &[Vec<u8>],
-    differs: &mut impl FnMut(&[u8]) -> bool,
-) -> Option<Vec<Vec<u8>>> {
-    let mut choices = (0..lines.len()).flat_map(|at| (1..MAX_NODES as u64).map(move |by| (at, by)));
-    choices.find_map(|(at, by)| {
-        let later = lines[at + 1..].iter().map(|line| numbered_down(line, by));
-        let less: Vec<Vec<u8>> = lines[..at].iter().cloned().chain(later).collect();
-        differs(&less.concat()).then_some(less)
-    })
-}
-
-/// The line, its record's number lowered if it names one.
-fn numbered_down(line: &[u8], by: u64) -> Vec<u8> {
-    match drill::parse(line.strip_suffix(b"\n").unwrap_or(line)) {
-        Some(Line::Call(Call::Deliver { record })) if record > by => {
-            format!("d {}\n", record - by).into_bytes()
-        }
-        Some(Line::Call(Call::Drop { record })) if record > by => {
-            format!("x {}\n", record - by).into_bytes()
-        }
-        _ => line.to_vec(),
-    }
 }

@@ -384,4 +384,5 @@ fn marks_stay_until_a_greater_index() {
     assert_eq!(node.rows[0], row(0, 0, 2, 1));
     let (answer, node) = three_tables([item(7, 1), item(7, 2), item(8, 3)], 3);
     assert_eq!((answer, node.counted.len(), node.marks), (Err(NoRoom), 2, 0b1000));
+    assert_eq!(node.rows[3].item, item(7, 1), "the first tag is kept");
 }

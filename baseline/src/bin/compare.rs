@@ -6,7 +6,8 @@ use std::process::ExitCode;
 
 use baseline::contender::run_program;
 use baseline::drill;
-use baseline::scripts::{script, smallest, Random};
+use baseline::scripts::{script, Random};
+use baseline::smallest::smallest;
 
 fn main() -> ExitCode {
     let words: Vec<String> = std::env::args().skip(1).collect();
