@@ -1,5 +1,5 @@
 -- Items (document 01: "An item is an index with a tag") and how they rank.
-use Prim.Native.Nat.{ℕ}
+use Prim.Native.Nat.{ℕ, suc}
 use mathlib.Core.Bool.{Bool, true, false, _&&_}
 use lib.Dec.{eqb}
 use Rattle.item.specs.declared.Tag.{Tag}
@@ -9,6 +9,10 @@ use Rattle.counters.specs.Counter.{indexBelow}
 -- "index 0, tag 0": the item of a node that has settled nothing
 abbrev pub zeroItem : Item
 zeroItem = record { index = record { 0 = 0 }; tag = record { 0 = 0 } }
+
+-- the item of the index one above, with this tag
+abbrev pub itemAbove : Item → Tag → Item
+itemAbove last tag = record { index = record { 0 = suc (last .index .0) }; tag = tag }
 
 -- two tags agree exactly if they are equal
 unfoldable pub tagsAgree : Tag → Tag → Bool

@@ -18,6 +18,7 @@ use Rattle.protocol.specs.Node.{rowOf, ownItem, storingBegun}
 use Rattle.protocol.specs.Operation.{Result, carriedOut, atNode, onSound, perform}
 use Rattle.protocol.specs.Phase.{isUp, isDown, isIdle, isFetching, atStage}
 use Rattle.protocol.specs.Table.{nodeAt}
+use Rattle.protocol.specs.TableLaws.{node-sound}
 use Rattle.protocol.specs.Write.{sendStore, retried, nothingToRetry, retryStep}
 use Rattle.protocol.specs.declared.Event.the-variants as event
 use Rattle.protocol.specs.declared.Node.{Node}
@@ -26,7 +27,7 @@ use Rattle.protocol.specs.declared.Phase.the-variants.{Up}
 use Rattle.protocol.specs.declared.Stage.the-variants.{Storing}
 use Rattle.protocol.proofs.InView.{Shaped, number-is, odd-size, size-fits}
 use Rattle.node_laws.proofs.PhaseCases.{up-cases}
-use Rattle.run_laws.proofs.Keeps.{Decided, group-valid, group-table, node-sound, retry-decided, performed-is, performs}
+use Rattle.run_laws.proofs.Keeps.{Decided, group-valid, group-table, retry-decided, performed-is, performs}
 use Rattle.progress_laws.specs.Laws.{Peers, BeginsAndGetsThrough, MayRetry, RetryGetsThrough}
 use Rattle.acting_laws.specs.Acting.{rowTakes}
 use Rattle.progress_laws.proofs.Begins.{begins}

@@ -24,12 +24,13 @@ use Rattle.protocol.specs.Operation.{Result, isRefused, rowItems, sentBy, carri
 use Rattle.protocol.specs.Outgoing.{outgoing, outgoingFrom, outgoingTo}
 use Rattle.protocol.specs.Sound.{soundNode}
 use Rattle.protocol.specs.Table.{noNode, nodeAt}
+use Rattle.protocol.specs.TableLaws.{table-count}
 use Rattle.protocol.specs.declared.Event.the-variants as event
 use Rattle.protocol.specs.declared.Node.{Node}
 use Rattle.protocol.specs.declared.Sends.{Sends}
 use Rattle.protocol.specs.declared.Step.{Step}
 use Rattle.run_laws.specs.Laws.{LeavesSound}
-use Rattle.run_laws.proofs.Keeps.{Decided, table-count, group-table, delivered-sound, group-store, all-for-group, records-are, deliver-decided, performed-is, performs}
+use Rattle.run_laws.proofs.Keeps.{Decided, group-table, delivered-sound, group-store, all-for-group, records-are, deliver-decided, performed-is, performs}
 use Rattle.progress_laws.specs.Delivery.{deliver}
 use Rattle.progress_laws.proofs.Puts.{Puts, puts}
 

@@ -26,6 +26,7 @@ use Rattle.protocol.specs.Phase.{isUp, atStage}
 use Rattle.protocol.specs.Sound.{soundNode}
 use Rattle.protocol.specs.Storing.{sendConfirm, storeSuccess}
 use Rattle.protocol.specs.Table.{nodeAt}
+use Rattle.protocol.specs.TableLaws.{node-sound}
 use Rattle.protocol.specs.declared.Answer.{Answer}
 use Rattle.protocol.specs.declared.Answer.the-variants as answer
 use Rattle.protocol.specs.declared.Node.{Node}
@@ -35,7 +36,7 @@ use Rattle.protocol.specs.declared.Stage.the-variants.{Confirming}
 use Rattle.protocol.proofs.Counts.{peerUnder, none-present}
 use Rattle.protocol.proofs.InView.{Shaped, number-is, size-is, size-fits}
 use Rattle.run_laws.specs.Laws.{LeavesSound}
-use Rattle.run_laws.proofs.Keeps.{group-valid, group-table, node-sound}
+use Rattle.run_laws.proofs.Keeps.{group-valid, group-table}
 use Rattle.acting_laws.specs.Acting.{rowTakes}
 use Rattle.progress_laws.specs.Delivery.{Delivery, Deliver, oks, envelopeOf, storeTo}
 use Rattle.progress_laws.specs.Each.{Each, Both, Distinct}

@@ -27,6 +27,7 @@ use Rattle.protocol.specs.Outgoing.{outgoing}
 use Rattle.protocol.specs.Sound.{soundNode}
 use Rattle.protocol.specs.Storing.{isCounted}
 use Rattle.protocol.specs.Table.{nodeAt}
+use Rattle.protocol.specs.TableLaws.{node-sound}
 use Rattle.protocol.specs.declared.Answer.{Answer}
 use Rattle.protocol.specs.declared.Answer.the-variants as answer
 use Rattle.protocol.specs.declared.Node.{Node}
@@ -37,7 +38,7 @@ use Rattle.protocol.proofs.Counts.{peerUnder}
 use Rattle.protocol.proofs.InView.{Shaped, size-is, size-fits}
 use Rattle.acting_laws.proofs.Sent.{nothing-sent}
 use Rattle.run_laws.specs.Laws.{LeavesSound}
-use Rattle.run_laws.proofs.Keeps.{group-valid, group-table, node-sound, deliver-decided}
+use Rattle.run_laws.proofs.Keeps.{group-valid, group-table, deliver-decided}
 use Rattle.progress_laws.specs.Delivery.{Delivery, deliver, Deliver, oks, envelopeOf}
 use Rattle.progress_laws.specs.Each.{Each, Both, Distinct}
 use Rattle.progress_laws.proofs.Delivering.{Acted, delivery-as, sound-as, replaced, left-alone}

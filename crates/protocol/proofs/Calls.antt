@@ -8,6 +8,7 @@ use mathlib.Core.Bool.{Bool, true, false, cond, _||_, false≢true}
 use lib.Dec.{eqb}
 use borrow.Author.Tests.{eqb-true, eqb-false}
 use Rattle.counters.specs.Counter.{incarnationAtLargest, attemptAtLargest, indexAtLargest, nextIndex}
+use Rattle.item.specs.Item.{itemAbove}
 use Rattle.item.specs.Laws.{next-index, next-incarnation, next-attempt}
 use Rattle.item.specs.Tests.{by-cond}
 use Rattle.item.specs.declared.Item.{Item}
@@ -15,7 +16,6 @@ use Rattle.item.specs.declared.Row.{Row}
 use Rattle.item.specs.declared.Tag.{Tag}
 use Rattle.returns.specs.Change.{Change, atWrite, atRetry, atCrash, atStart, unchanged}
 use Rattle.returns.specs.History.{Note, quiet, begins}
-use Rattle.returns.specs.Rank.{oneAbove}
 use Rattle.returns.specs.View.{View, live}
 use Rattle.protocol.specs.Answer.{ok}
 use Rattle.protocol.specs.Node.{ownItem, crashed, started, storingBegun, blankNode}
@@ -43,7 +43,7 @@ or-right true b e = absurd (false≢true (sym e))
 or-right false b e = e
 
 -- Write
-item-above : (i : Item) (tag : Tag) → indexAtLargest (i .index) ≡ false → nextItem i tag ≡ oneAbove i tag
+item-above : (i : Item) (tag : Tag) → indexAtLargest (i .index) ≡ false → nextItem i tag ≡ itemAbove i tag
 unfolding nextItem
 item-above i tag l = let p : nextIndex (i .index) .0 ≡ suc (i .index .0) = next-index (i .index) l in
     λ k. record { index = record { 0 = p k }; tag = tag }
@@ -58,7 +58,7 @@ module _ (node : Node) (tag : Tag) (e : isUpIdle (node .phase) ≡ true) where
       (rw (v .view) (omega (arith, next-attempt (node .attempt) (or-right (indexAtLargest (ownItem node .index)) _ l))))
       (rw (v .view) (begun-own node _ _ _ x (numbered v) (row-there v)
       ∙ item-above (ownItem node) tag (or-left _ (attemptAtLargest (node .attempt)) l)
-      ∙ ap (λ (i : Item). oneAbove i tag) (own-row x node (numbered v))))
+      ∙ ap (λ (i : Item). itemAbove i tag) (own-row x node (numbered v))))
 
   write-other : {f n x k : ℕ} {g : View} → InView f n x k g node → k ≢ x → Change f x g quiet k (seen x (written node tag))
   unfolding written storingBegun

@@ -4,11 +4,11 @@ use Prim.Native.Nat.{ℕ, zero, suc, _+_, _<_, _≤_}
 use native.Mathlib.Omega.{arith}
 use mathlib.Core.Path.{_≡_, refl, sym, ap, subst, _∙_}
 use mathlib.Core.Logic.{_≢_, _⊎_, inl, inr}
-use mathlib.Core.Bool.{Bool, true, false, _&&_}
-use mathlib.Core.List.{List, [], _∷_}
-use lib.Dec.{eqb, ltb}
-use lib.ListN.{length, getD}
-use borrow.Author.Tests.{eqb-true, ltb-true}
+use mathlib.Core.Bool.{true, false, _&&_}
+use mathlib.Core.List.{List}
+use lib.Dec.{ltb}
+use lib.ListN.{length}
+use borrow.Author.Tests.{ltb-true}
 use Rattle.item.specs.Maxima.{maxNodes}
 use Rattle.item.specs.Tests.{by-cond, and-left, and-right}
 use Rattle.item.specs.declared.Item.{Item}
@@ -28,8 +28,9 @@ use Rattle.protocol.specs.Claim.{TagFits}
 use Rattle.protocol.specs.Deliver.{deliverStep}
 use Rattle.protocol.specs.Operation.{perform, isRefused, carriedOut, atNode, dropped, delivered, onSound, onRecords}
 use Rattle.protocol.specs.Run.{deliveredBy, isOk}
-use Rattle.protocol.specs.Sound.{everyFrom, soundNode}
-use Rattle.protocol.specs.Table.{noNode, nodeAt, soundTable}
+use Rattle.protocol.specs.Sound.{soundNode}
+use Rattle.protocol.specs.Table.{nodeAt, soundTable}
+use Rattle.protocol.specs.TableLaws.{table-count, node-sound}
 use Rattle.protocol.specs.Write.{writeStep, retryStep, crashStep, startStep}
 use Rattle.protocol.specs.declared.Answer.{Answer}
 use Rattle.protocol.specs.declared.Event.{Event}
@@ -48,30 +49,7 @@ use Rattle.protocol.proofs.Shapes.{write-shaped, retry-shaped, crash-sh
 use Rattle.protocol.proofs.Stands.{Carries, Mail, StoreOf, Stands, Goes, Tells, Quiet, store-after, refuses, carried}
 use Rattle.protocol.proofs.Told.{told, told-quiet}
 
--- ---- tests of a table and of a record
-
-every-at : {A : Type 0} (test : ℕ → A → Bool) (k : ℕ) (l : List A) (d : A) (j : ℕ) → everyFrom test k l ≡ true → j < length l
-    → test (k + j) (getD l j d) ≡ true
-unfolding everyFrom
-every-at test k [] d j e h = absurd (omega arith)
-every-at test k (a ∷ l) d zero e h =
-    let z : k + 0 ≡ k = omega arith in
-    rw z (and-left (test k a) (everyFrom test (suc k) l) e)
-every-at test k (a ∷ l) d (suc j) e h =
-    let z : k + suc j ≡ suc k + j = omega arith in
-    rw z (every-at test (suc k) l d j (and-right (test k a) (everyFrom test (suc k) l) e) (omega arith))
-
-node-sound : (n : ℕ) (table : List Node) (k : ℕ) → soundTable n table ≡ true → k < n → soundNode n k (nodeAt table k) ≡ true
-unfolding soundTable nodeAt
-node-sound n table k e h =
-    let c : length table ≡ n = eqb-true (length table) n (and-left (eqb (length table) n) (everyFrom (soundNode n) 0 table) e) in
-    let z : 0 + k ≡ k = omega arith in
-    subst (λ (i : ℕ). soundNode n i (getD table k noNode) ≡ true) z
-    (every-at (soundNode n) 0 table noNode k (and-right (eqb (length table) n) (everyFrom (soundNode n) 0 table) e) (omega arith))
-
-table-count : (n : ℕ) (table : List Node) → soundTable n table ≡ true → length table ≡ n
-unfolding soundTable
-table-count n table e = eqb-true (length table) n (and-left (eqb (length table) n) (everyFrom (soundNode n) 0 table) e)
+-- ---- tests of a record
 
 items-length : (m : ℕ) (r : List ℕ) (at : ℕ) → length (itemsIn m r at) ≡ m
 unfolding itemsIn
@@ -93,7 +71,7 @@ module _ (f n x : ℕ) (odd : n ≡ suc (f + f)) (fits : n ≤ maxNodes) (x-belo
           fits = fits;
           x-below = x-below;
           k-below = h;
-          sound = node-sound n table k sound-table h;
+          sound = node-sound n table sound-table k h;
           shaped = S .shaped k;
           view = S .view k;
         }
@@ -104,7 +82,7 @@ module _ (f n x : ℕ) (odd : n ≡ suc (f + f)) (fits : n ≤ maxNodes) (x-belo
         → (isRefused (step .answer) ≡ false → Tied f x g (note (step .answer)) k back step)
         → Tells f n x g note (carriedOut table store (recordsOf store) k back step)
     decided note q k back step h =
-        let s : soundNode n k (nodeAt table k) ≡ true = node-sound n table k sound-table h in
+        let s : soundNode n k (nodeAt table k) ≡ true = node-sound n table sound-table k h in
         carried f n x fits x-below table store g S note q k back step h (table-count n table sound-table)
         (number-is n k (nodeAt table k) s) (size-is n k (nodeAt table k) s)
 

@@ -6,6 +6,7 @@ use mathlib.Core.Logic.{_⊎_, inl, inr}
 use mathlib.Core.Bool.{Bool, true, false, cond, false≢true}
 use mathlib.Core.List.{List, [], _∷_, List·Memᴰ, List·Memᴰ·cases-cons, List·Memᴰ·head}
 use lib.Dec.{eqb}
+use Rattle.item.specs.Item.{itemAbove}
 use Rattle.item.specs.declared.Item.{Item}
 use Rattle.item.specs.declared.Tag.{Tag}
 use Rattle.record.specs.declared.Reading.{Reading}
@@ -14,7 +15,7 @@ use Rattle.returns.specs.History.{Note, quiet, begins, settles, returns, Histor
 use Rattle.store.specs.Records.{recordsOf}
 use Rattle.store.specs.Sound.{messageIn}
 use Rattle.protocol.specs.Operation.{isRefused}
-use Rattle.protocol.specs.Run.{Call, deliveredBy, isTo, itemAfter, lastAfter, isOk, itemAbove, begunAt}
+use Rattle.protocol.specs.Run.{Call, deliveredBy, isTo, itemAfter, lastAfter, isOk, begunAt}
 use Rattle.protocol.specs.declared.Answer.{Answer}
 use Rattle.protocol.specs.declared.Answer.the-variants as answer
 use Rattle.protocol.specs.declared.Event.{Event}
@@ -129,7 +130,6 @@ read-begun x r (Found e) (answer.Refused why) h = refl
 -- a Write begins the item one above
 write-begun : (h : History) (tag : Tag) (item : Item) (t u : Bool) → List·Memᴰ item (afterNote h (cond t (cond u (begins tag) quiet) quiet) .begun)
     → List·Memᴰ item (h .begun) ⊎ List·Memᴰ item (cond t (cond u (itemAbove (h .last) tag ∷ []) []) [])
-unfolding itemAbove
 write-begun h tag item true true m = go (List·Memᴰ·cases-cons m)
   where
     go : (item ≡ itemAbove (h .last) tag) ⊎ List·Memᴰ item (h .begun) → List·Memᴰ item (h .begun) ⊎ List·Memᴰ item (itemAbove (h .last) tag ∷ [])

@@ -9,6 +9,7 @@ pub mod Deliver
 pub mod Outgoing
 pub mod Sound
 pub mod Table
+pub mod TableLaws
 pub mod Operation
 pub mod Run
 pub mod Refusal

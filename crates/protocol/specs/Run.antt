@@ -2,19 +2,17 @@
 -- Crash, Start, Drop and Deliver .. with any arguments. Refused calls stand in the list too. .. The first call gets table
 -- and store as Set up left them, each later one as the call before left them". Its words "are read off the calls, their
 -- answers and the messages delivered".
-use Prim.Native.Nat.{ℕ, suc}
+use Prim.Native.Nat.{ℕ}
 use mathlib.Core.Bool.{Bool, true, false, cond}
 use mathlib.Core.List.{List, [], _∷_, _++_}
 use lib.Dec.{eqb}
-use Rattle.item.specs.Item.{zeroItem}
+use Rattle.item.specs.Item.{zeroItem, itemAbove}
 use Rattle.item.specs.declared.Item.{Item}
-use Rattle.item.specs.declared.Tag.{Tag}
-use Rattle.message.specs.declared.Envelope.{Envelope}
 use Rattle.record.specs.declared.Reading.{Reading}
 use Rattle.record.specs.declared.Reading.the-variants.{Found, Fault}
 use Rattle.store.specs.Records.{recordsOf}
 use Rattle.store.specs.Sound.{messageIn}
-use Rattle.protocol.specs.Operation.{Result, perform}
+use Rattle.protocol.specs.Operation.{perform}
 use Rattle.protocol.specs.declared.Answer.{Answer}
 use Rattle.protocol.specs.declared.Answer.the-variants as answer
 use Rattle.protocol.specs.declared.Event.{Event}
@@ -77,10 +75,6 @@ isOk (answer.Settled item) = false
 isOk (answer.Accepted item) = false
 isOk (answer.Stopped row) = false
 isOk (answer.Refused why) = false
-
--- an item of the index one above
-unfoldable pub itemAbove : Item → Tag → Item
-itemAbove last tag = record { index = record { 0 = suc (last .index .0) }; tag = tag }
 
 -- "A Write answered "ok" begins the item that has the call's tag and the index one above that of the node's last item at
 -- that point. Nothing else begins an item"

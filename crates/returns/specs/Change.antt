@@ -11,10 +11,10 @@ use mathlib.Core.Bool.{true, false}
 use mathlib.Core.List.{List, _++_}
 use Rattle.item.specs.declared.Item.{Item}
 use Rattle.item.specs.declared.Tag.{Tag}
-use Rattle.item.specs.Item.{zeroItem}
+use Rattle.item.specs.Item.{zeroItem, itemAbove}
 use Rattle.returns.specs.Replace.{replaced, replaced-each}
 use Rattle.returns.specs.Majority.{count, groupSize}
-use Rattle.returns.specs.Rank.{Above, oneAbove}
+use Rattle.returns.specs.Rank.{Above}
 use Rattle.returns.specs.History.{Note, quiet, begins, settles, returns}
 use Rattle.returns.specs.View.{down, fetching, returning, up, idle, storing, confirming, ViewNode, ViewMessage}
 use Rattle.returns.specs.View.{storeTo, storedBy, confirmTo, confirmedBy, fetchFrom, tableFrom, View, live, put, Sent, Each}
@@ -95,7 +95,7 @@ module _ (f x : ℕ) where
   pub data Change (g : View) : Note → ℕ → ViewNode → Type 0 where
     -- Write at x
     atWrite : (t : Tag) (v : ViewNode) → (g .node x) .phase ≡ up → (g .node x) .stage ≡ idle → BeginsStoring (g .node x) v
-        → v .phase ≡ up → (g .node x) .attempt < v .attempt → v .item ≡ oneAbove ((g .node x) .item) t → Change g (begins t) x v
+        → v .phase ≡ up → (g .node x) .attempt < v .attempt → v .item ≡ itemAbove ((g .node x) .item) t → Change g (begins t) x v
     -- Retry at x, Returning or Up
     atRetry : (v : ViewNode) → ((g .node x) .stage ≡ idle → ⊥) → BeginsStoring (g .node x) v
         → v .phase ≡ (g .node x) .phase → (g .node x) .attempt < v .attempt → v .item ≡ (g .node x) .item → Change g quiet x v

@@ -6,8 +6,7 @@ use mathlib.Core.Logic.{_⊎_}
 use mathlib.Core.List.{List, [], _∷_, List·Memᴰ}
 use Rattle.item.specs.declared.Item.{Item}
 use Rattle.item.specs.declared.Tag.{Tag}
-use Rattle.item.specs.Item.{zeroItem}
-use Rattle.returns.specs.Rank.{oneAbove}
+use Rattle.item.specs.Item.{zeroItem, itemAbove}
 
 -- What a call tells of the node: a Write answered "ok" begins an item with the call's tag, "settled" and "accepted" name an
 -- item, and everything else, calls at other nodes and refusals included, is quiet.
@@ -29,7 +28,7 @@ atSetUp = record { last = zeroItem; begun = [] }
 -- "A Write answered "ok" begins the item that has the call's tag and the index one above that of the node's last item"
 abbrev pub afterNote : History → Note → History
 afterNote h quiet = h
-afterNote h (begins t) = record { last = h .last; begun = oneAbove (h .last) t ∷ h .begun }
+afterNote h (begins t) = record { last = h .last; begun = itemAbove (h .last) t ∷ h .begun }
 afterNote h (settles i) = record { last = i; begun = h .begun }
 afterNote h (returns i) = record { last = i; begun = h .begun }
 

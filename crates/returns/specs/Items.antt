@@ -8,10 +8,10 @@ use mathlib.Core.Bool.{true, false≢true}
 use mathlib.Core.List.{List·Memᴰ·head, List·Memᴰ·tail}
 use Rattle.item.specs.declared.Item.{Item}
 use Rattle.item.specs.declared.Tag.{Tag}
-use Rattle.item.specs.Item.{zeroItem}
+use Rattle.item.specs.Item.{zeroItem, itemAbove}
 use Rattle.returns.specs.Replace.{replaced, replaced-each}
 use Rattle.returns.specs.Majority.{count, groupSize}
-use Rattle.returns.specs.Rank.{Above, above-higher, above-index, above-cases, oneAbove}
+use Rattle.returns.specs.Rank.{Above, above-higher, above-index, above-cases}
 use Rattle.returns.specs.History.{Note, quiet, begins, settles, returns, History, afterNote, May}
 use Rattle.returns.specs.View.{ViewPhase, down, fetching, returning, up, idle, ViewNode, View, live, clash}
 use Rattle.returns.specs.Change.{CountsConfirmed, Finishes, Change}
@@ -117,7 +117,7 @@ module _ (f x : ℕ) (h : History) (g : View) (I : Invariant f x h g) where
 
   pub item-change : (n : Note) (p : ℕ) (v : ViewNode) → Change f x g n p v → Known (afterNote h n) (v .item)
   item-change n p v (atWrite t _ e s b u a k) =
-      let i : v .item ≡ oneAbove (h .last) t = k ∙ ap (λ (j : Item). oneAbove j t) ((I .own) .when-idle e s) in
+      let i : v .item ≡ itemAbove (h .last) t = k ∙ ap (λ (j : Item). itemAbove j t) ((I .own) .when-idle e s) in
       rw i (record { not-far = omega arith; was-begun = λ z. List·Memᴰ·head refl })
   item-change n p v (atRetry _ d b u a k) = rw k (I .items x)
   item-change n p v (atCrash _ _ i u s k) = rw k (known-zero h)

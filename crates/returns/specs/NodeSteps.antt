@@ -6,8 +6,9 @@ use mathlib.Core.Path.{_≡_, refl, _∙_}
 use mathlib.Core.Logic.{_⊎_, inl, inr}
 use mathlib.Core.Bool.{true}
 use Rattle.item.specs.declared.Item.{Item}
+use Rattle.item.specs.Item.{itemAbove}
 use Rattle.returns.specs.Replace.{replaced, replaced-each}
-use Rattle.returns.specs.Rank.{Above, above-refl, above-trans, above-higher, oneAbove}
+use Rattle.returns.specs.Rank.{Above, above-refl, above-trans, above-higher}
 use Rattle.returns.specs.History.{History, Note}
 use Rattle.returns.specs.View.{down, fetching, up, idle, storing, confirming, ViewNode, View, live, clash}
 use Rattle.returns.specs.Change.{SameWrite, StaysLive, Change}
@@ -32,7 +33,7 @@ module _ (f x : ℕ) (h : History) (g : View) (I : Invariant f x h g) where
   pub node-step : (n : Note) (p : ℕ) (v : ViewNode) → Change f x g n p v → NodeStep f g p v
   node-step n p v (atWrite t _ e s b u a k) =
       livesOn (record { same-incarnation = b .same-incarnation; was-live = rw e; is-live = rw u; stays-up = λ z. u })
-      (rw k (above-higher ((g .node x) .item) (oneAbove ((g .node x) .item) t) (omega arith)))
+      (rw k (above-higher ((g .node x) .item) (itemAbove ((g .node x) .item) t) (omega arith)))
   node-step n p v (atRetry _ d b u a k) = goes-on f g p v (writing-live h (g .node x) (I .own) d) (b .same-incarnation) u k
   node-step n p v (atCrash _ _ i u s k) = goesDown u i
   node-step n p v (atStart _ _ i u s k c) = restarts u i c

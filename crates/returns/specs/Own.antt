@@ -4,8 +4,8 @@ use mathlib.Core.Path.{_≡_, refl, sym, ap, _∙_}
 use mathlib.Core.Logic.{_≢_}
 use mathlib.Core.Bool.{true, false, false≢true}
 use Rattle.item.specs.declared.Item.{Item}
+use Rattle.item.specs.Item.{itemAbove}
 use Rattle.returns.specs.Replace.{replaced, replaced-each, replaced-both}
-use Rattle.returns.specs.Rank.{oneAbove}
 use Rattle.returns.specs.History.{Note, History, afterNote}
 use Rattle.returns.specs.View.{idle, storing, ViewNode, View, live, clash}
 use Rattle.returns.specs.Change.{CountsStored, BeginsStoring, Change}
@@ -38,7 +38,7 @@ module _ (f x : ℕ) (h : History) (g : View) (I : Invariant f x h g) where
       let s′ = b .now-storing in
       record {
         when-idle = λ y y′. clash (cc);
-        when-writing = λ y y′. ap (λ (j : Item). j .index .0) (k ∙ ap (λ (j : Item). oneAbove j t) ((I .own) .when-idle e s));
+        when-writing = λ y y′. ap (λ (j : Item). j .index .0) (k ∙ ap (λ (j : Item). itemAbove j t) ((I .own) .when-idle e s));
         when-returning = λ y. clash (cc);
         when-off = λ y. clash (cc);
       }

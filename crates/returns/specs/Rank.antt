@@ -1,18 +1,13 @@
 -- How items compare: "above" (the same item, or one that ranks higher), and what a row still says of an item when two tags
 -- may have come at its index. Of how items rank only this module knows more than the laws of crate `item` say: that an item
 -- which ranks higher has a higher index (`rank-higher`). All other modules use what is below.
-use Prim.Native.Nat.{suc, _≤_, _<_}
+use Prim.Native.Nat.{_≤_, _<_}
 use mathlib.Core.Path.{_≡_, refl, sym, _∙_}
 use mathlib.Core.Logic.{_⊎_, inl, inr}
 use mathlib.Core.Bool.{Bool, true, false, false≢true}
 use Rattle.item.specs.declared.Item.{Item}
-use Rattle.item.specs.declared.Tag.{Tag}
 use Rattle.item.specs.Item.{ranksBelow}
 use Rattle.item.specs.Laws.{below-less, rank-self, rank-above-trans, rank-one-way, rank-index, index-rank}
-
--- the item of the index one above that of i, with the tag t
-abbrev pub oneAbove : Item → Tag → Item
-oneAbove i t = record { index = record { 0 = suc (i .index .0) }; tag = t }
 
 rank-higher : (i j : Item) → ranksBelow i j ≡ true → i .index .0 < j .index .0
 unfolding ranksBelow

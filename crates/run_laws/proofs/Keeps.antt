@@ -1,15 +1,15 @@
 -- Every operation keeps a sound table and store sound: a decision that is carried out puts into the store only messages for
 -- the group, and leaves a sound node in its place.
-use Prim.Native.Nat.{ℕ, zero, suc, _+_, _^_, _≤_, _<_}
+use Prim.Native.Nat.{ℕ, _^_, _≤_, _<_}
 use native.Mathlib.Omega.{arith}
 use native.Mathlib.Nat.{zero-add}
 use mathlib.Core.Path.{_≡_, refl, sym, ap, subst, _∙_}
 use mathlib.Core.Logic.{_≢_}
-use mathlib.Core.Bool.{Bool, true, false, false≢true}
-use mathlib.Core.List.{List, [], _∷_, List·Memᴰ}
-use lib.Dec.{eqb, ltb}
-use lib.ListN.{length, getD, set, length-set}
-use borrow.Author.Tests.{eqb-true, eq-eqb, ltb-true, ltb-false}
+use mathlib.Core.Bool.{true, false, false≢true}
+use mathlib.Core.List.{List, List·Memᴰ}
+use lib.Dec.{ltb}
+use lib.ListN.{length, set, length-set}
+use borrow.Author.Tests.{eq-eqb, ltb-true, ltb-false}
 use Rattle.item.specs.Maxima.{maxNodes, tagSize, validSize}
 use Rattle.item.specs.Tests.{by-cond, and-left, and-right, and-both}
 use Rattle.item.specs.declared.Tag.{Tag}
@@ -36,8 +36,9 @@ use Rattle.protocol.specs.Claim.{TagFits}
 use Rattle.protocol.specs.Deliver.{deliverStep}
 use Rattle.protocol.specs.Operation.{refuse, isRefused, rowItems, sentBy, carriedOut, atNode, dropped, delivered, onSound, onRecords, perform}
 use Rattle.protocol.specs.Outgoing.{outgoing}
-use Rattle.protocol.specs.Sound.{everyFrom, soundNode}
+use Rattle.protocol.specs.Sound.{soundNode}
 use Rattle.protocol.specs.Table.{noNode, nodeAt, soundTable}
+use Rattle.protocol.specs.TableLaws.{table-count, every-sound, node-sound}
 use Rattle.protocol.specs.Write.{writeStep, retryStep, crashStep, startStep}
 use Rattle.protocol.specs.declared.Answer.{Answer}
 use Rattle.protocol.specs.declared.Event.{Event}
@@ -63,34 +64,12 @@ use Rattle.run_laws.proofs.Messages.{Says, says}
 
 -- ---- a sound table
 
-every-at : {A : Type 0} (test : ℕ → A → Bool) (k : ℕ) (l : List A) (d : A) (j : ℕ) → everyFrom test k l ≡ true → j < length l
-    → test (k + j) (getD l j d) ≡ true
-unfolding everyFrom
-every-at test k [] d j e h = absurd (omega arith)
-every-at test k (a ∷ l) d zero e h =
-    let z : k + 0 ≡ k = omega arith in
-    rw z (and-left (test k a) (everyFrom test (suc k) l) e)
-every-at test k (a ∷ l) d (suc j) e h =
-    let z : k + suc j ≡ suc k + j = omega arith in
-    rw z (every-at test (suc k) l d j (and-right (test k a) (everyFrom test (suc k) l) e) (omega arith))
-
 module _ (n : ℕ) (table : List Node) (e : soundTable n table ≡ true) where
-  pub table-count : length table ≡ n
-  unfolding soundTable
-  table-count = eqb-true (length table) n (and-left (eqb (length table) n) (everyFrom (soundNode n) 0 table) e)
-
-  pub node-sound : (k : ℕ) → k < n → soundNode n k (nodeAt table k) ≡ true
-  unfolding soundTable nodeAt
-  node-sound k h =
-      let c : length table ≡ n = table-count in
-      subst (λ (i : ℕ). soundNode n i (getD table k noNode) ≡ true) (zero-add k)
-      (every-at (soundNode n) 0 table noNode k (and-right (eqb (length table) n) (everyFrom (soundNode n) 0 table) e) (omega arith))
-
   node-set : (k : ℕ) (node : Node) → soundNode n k node ≡ true → soundTable n (set table k node) ≡ true
   unfolding soundTable
   node-set k node s =
-      and-both (eq-eqb (length (set table k node)) n (simp length-set table-count))
-      (every-set (soundNode n) 0 table k node (and-right (eqb (length table) n) (everyFrom (soundNode n) 0 table) e)
+      and-both (eq-eqb (length (set table k node)) n (simp length-set (table-count n table e)))
+      (every-set (soundNode n) 0 table k node (every-sound n table e)
       (λ j d. subst (λ (i : ℕ). soundNode n i node ≡ true) (sym (d ∙ zero-add k)) s))
 
 -- ---- a decision that may be carried out
