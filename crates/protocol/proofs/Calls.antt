@@ -135,4 +135,4 @@ pub start-tied : {f n x k : ℕ} {g : View} {node : Node} → InView f n x k g n
     → isRefused (startStep node .answer) ≡ false → Tied f x g quiet k k (startStep node)
 unfolding started
 start-tied {f} {n} {x} {k} {g} {node} v = start-cases (IfTaken (Tied f x g quiet k k)) node (refusal-not-taken (Tied f x g quiet k k) node)
-    (λ l h. tied-fetch f x g k k (started node) (numbered v) quiet (start-seen node (v .view) l))
+    (λ d l h. tied-fetch f x g k k (started node) (numbered v) quiet (start-seen node (v .view) l))

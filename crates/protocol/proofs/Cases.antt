@@ -55,10 +55,10 @@ module _ (P : Step → Type 0) (node : Node) (refusal : (why : Refusal) → P (r
   unfolding crashStep
   crash-cases h = by-cond P (isDown (node .phase)) _ _ (λ e. refusal WrongStage) (λ e. h)
 
-  pub start-cases : (incarnationAtLargest (node .incarnation) ≡ false → P (sendFetch (started node))) → P (startStep node)
+  pub start-cases : (isDown (node .phase) ≡ true → incarnationAtLargest (node .incarnation) ≡ false → P (sendFetch (started node))) → P (startStep node)
   unfolding startStep
   start-cases h = by-cond P (isDown (node .phase)) _ _
-      (λ e. by-cond P (incarnationAtLargest (node .incarnation)) _ _ (λ l. refusal AtLargest) h)
+      (λ e. by-cond P (incarnationAtLargest (node .incarnation)) _ _ (λ l. refusal AtLargest) (λ l. h e l))
       (λ e. refusal WrongStage)
 
   -- Store: the row takes an item that ranks above its own, or its own
@@ -83,8 +83,8 @@ module _ (P : Step → Type 0) (node : Node) (refusal : (why : Refusal) → P (r
   -- Stored: counted, and with the f-th the node is Confirming
   pub stored-cases : (sender : ℕ) (incarnation other : Incarnation) (attempt : Attempt) (item : Item)
       → let counted = withCounted node sender incarnation in
-      (isStoring (node .phase) ≡ true → ownWrite node other attempt item ≡ true → P (ok counted sends.Nothing))
-      → (isStoring (node .phase) ≡ true → ownWrite node other attempt item ≡ true
+      (isStoring (node .phase) ≡ true → ownWrite node other attempt item ≡ true → belowHalf counted ≡ true → P (ok counted sends.Nothing))
+      → (isStoring (node .phase) ≡ true → ownWrite node other attempt item ≡ true → belowHalf counted ≡ false
       → P (sendConfirm (confirmingBegun counted (atStage (counted .phase) Confirming))))
       → P (onStored node sender incarnation other attempt item)
   unfolding onStored storedCounted
@@ -92,7 +92,7 @@ module _ (P : Step → Type 0) (node : Node) (refusal : (why : Refusal) → P (r
       (λ e. by-cond P (ownWrite node other attempt item) _ _
       (λ own. by-cond P (isCounted node sender) _ _ (λ c. refusal Counted)
       (λ c. by-cond P (belowHalf (withCounted node sender incarnation)) _ _
-      (λ few. h e own) (λ few. last e own)))
+      (λ few. h e own few) (λ few. last e own few)))
       (λ own. refusal Stale))
       (λ e. refusal NotTaken)
 
@@ -107,7 +107,8 @@ module _ (P : Step → Type 0) (node : Node) (refusal : (why : Refusal) → P (r
   -- Confirmed: counted, and with the f-th the write is finished
   pub confirmed-cases : (sender : ℕ) (incarnation other : Incarnation) (attempt : Attempt) (item : Item)
       → let counted = withCounted node sender incarnation in
-      (isConfirming (node .phase) ≡ true → (ownWrite node other attempt item && askedUnder node sender incarnation) ≡ true → P (ok counted sends.Nothing))
+      (isConfirming (node .phase) ≡ true → (ownWrite node other attempt item && askedUnder node sender incarnation) ≡ true
+      → belowHalf counted ≡ true → P (ok counted sends.Nothing))
       → (isConfirming (node .phase) ≡ true → (ownWrite node other attempt item && askedUnder node sender incarnation) ≡ true
       → belowHalf counted ≡ false → P (storeSuccess counted))
       → P (onConfirmed node sender incarnation other attempt item)
@@ -116,7 +117,7 @@ module _ (P : Step → Type 0) (node : Node) (refusal : (why : Refusal) → P (r
       (λ e. by-cond P (ownWrite node other attempt item && askedUnder node sender incarnation) _ _
       (λ own. by-cond P (isCounted node sender) _ _ (λ c. refusal Counted)
       (λ c. by-cond P (belowHalf (withCounted node sender incarnation)) _ _
-      (λ few. h e own) (λ few. last e own few)))
+      (λ few. h e own few) (λ few. last e own few)))
       (λ own. refusal Stale))
       (λ e. refusal NotTaken)
 
@@ -128,7 +129,7 @@ module _ (P : Step → Type 0) (node : Node) (refusal : (why : Refusal) → P (r
   -- Table: counted, and with the (f + 1)-th the node stops or writes back
   pub table-cases : (sender : ℕ) (incarnation other : Incarnation) (items : List Item)
       → let counted = withTable node sender incarnation items in
-      (isFetching (node .phase) ≡ true → ownIncarnation node other ≡ true → P (ok counted sends.Nothing))
+      (isFetching (node .phase) ≡ true → ownIncarnation node other ≡ true → atMostHalf counted ≡ true → P (ok counted sends.Nothing))
       → P (stopped counted)
       → (isFetching (node .phase) ≡ true → ownIncarnation node other ≡ true
       → atMostHalf counted ≡ false → hasConflict counted ≡ false → P (sendStore (writtenBack counted)))
@@ -138,7 +139,7 @@ module _ (P : Step → Type 0) (node : Node) (refusal : (why : Refusal) → P (r
       (λ e. by-cond P (ownIncarnation node other) _ _
       (λ own. by-cond P (isCounted node sender) _ _ (λ c. refusal Counted)
       (λ c. by-cond P (atMostHalf (withTable node sender incarnation items)) _ _
-      (λ few. h e own)
+      (λ few. h e own few)
       (λ few. by-cond P (hasConflict (withTable node sender incarnation items)) _ _ (λ c′. conflict) (λ c′. last e own few c′))))
       (λ own. refusal Stale))
       (λ e. refusal NotTaken)

@@ -113,7 +113,7 @@ module _ {f n x k : ℕ} {g : View} {node : Node} (v : InView f n x k g node) (s
   unfolding ok storeSuccess withCounted writeEnded
   confirmed-tied other a item items l sent =
       confirmed-cases (IfTaken (Delivered f x g k s)) node (refusal-not-taken (Delivered f x g k s) node) s i other a item
-      (λ e own h. tied-nothing f x g k s (withCounted node s i) (numbered v) quiet
+      (λ e own few h. tied-nothing f x g k s (withCounted node s i) (numbered v) quiet
       (by-place k x (λ t. at-x v t (λ w. confirmed-own s i e w l (counted t e own w))) (confirmed-other e)))
       (λ e own enough h. record {
         changes = by-place k x

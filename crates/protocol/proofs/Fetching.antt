@@ -119,7 +119,7 @@ module _ {f n x k : ℕ} {g : View} {node : Node} (v : InView f n x k g node) (s
   unfolding ok stopped sendStore crashed blankNode writtenBack storingBegun withTable withCounted withRows
   table-tied other l sent =
       table-cases (IfTaken (Delivered f x g k s)) node (refusal-not-taken (Delivered f x g k s) node) s i other items
-      (λ e own h. tied-nothing f x g k s (withTable node s i items) (numbered v) quiet
+      (λ e own few h. tied-nothing f x g k s (withTable node s i items) (numbered v) quiet
       (table-few l e (counts-table other (seen x (withTable node s i items)) e own (sent _ (List·Memᴰ·head refl)) refl)))
       (λ h. record {
         changes = crash-seen node (withTable node s i items) (v .view) refl;

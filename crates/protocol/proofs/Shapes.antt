@@ -129,7 +129,7 @@ pub crash-shaped : (node : Node) → Shaped node → Shaped (crashStep node .nod
 crash-shaped node s = crash-cases ShapedStep node (refused-shaped node s) (ok-shaped _ (crashed-shaped node) _)
 
 pub start-shaped : (node : Node) → Shaped node → Shaped (startStep node .node)
-start-shaped node s = start-cases ShapedStep node (refused-shaped node s) (λ l. fetch-shaped _ (started-shaped node))
+start-shaped node s = start-cases ShapedStep node (refused-shaped node s) (λ d l. fetch-shaped _ (started-shaped node))
 
 -- and the delivery of a message, by its kind
 message-shaped : (m : Message) (node : Node) (sender : ℕ) (incarnation : Incarnation) (items : List Item) → Shaped node
@@ -139,19 +139,19 @@ message-shaped (message.Store attempt item) node sender incarnation items s =
     store-cases ShapedStep node (refused-shaped node s) sender incarnation attempt item (λ e l h. ok-shaped _ (row-shaped node sender _ s) _)
 message-shaped (message.Stored other attempt item) node sender incarnation items s =
     stored-cases ShapedStep node (refused-shaped node s) sender incarnation other attempt item
-    (λ e own. ok-shaped _ (counted-shaped node sender incarnation s) _)
-    (λ e own. confirm-shaped _ (confirming-shaped _ _ (counted-shaped node sender incarnation s)))
+    (λ e own few. ok-shaped _ (counted-shaped node sender incarnation s) _)
+    (λ e own few. confirm-shaped _ (confirming-shaped _ _ (counted-shaped node sender incarnation s)))
 message-shaped (message.Confirm other attempt item) node sender incarnation items s =
     confirm-cases ShapedStep node (refused-shaped node s) sender incarnation other attempt item (ok-shaped node s _)
 message-shaped (message.Confirmed other attempt item) node sender incarnation items s =
     confirmed-cases ShapedStep node (refused-shaped node s) sender incarnation other attempt item
-    (λ e own. ok-shaped _ (counted-shaped node sender incarnation s) _)
+    (λ e own few. ok-shaped _ (counted-shaped node sender incarnation s) _)
     (λ e own few. success-shaped _ (counted-shaped node sender incarnation s))
 message-shaped message.Fetch node sender incarnation items s =
     fetch-cases ShapedStep node (refused-shaped node s) incarnation (λ e. ok-shaped node s _)
 message-shaped (message.Table other) node sender incarnation items s =
     table-cases ShapedStep node (refused-shaped node s) sender incarnation other items
-    (λ e own. ok-shaped _ (table-shaped node sender incarnation items s) _)
+    (λ e own few. ok-shaped _ (table-shaped node sender incarnation items s) _)
     (stopped-shaped _)
     (λ e own few c. store-shaped _ (begun-shaped _ _ _ _ (table-shaped node sender incarnation items s)))
 

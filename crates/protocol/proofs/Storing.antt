@@ -141,9 +141,9 @@ module _ {f n x k : ℕ} {g : View} {node : Node} (v : InView f n x k g node) (s
   unfolding ok sendConfirm withCounted confirmingBegun
   stored-tied other a item items l d sent =
       stored-cases (IfTaken (Delivered f x g k s)) node (refusal-not-taken (Delivered f x g k s) node) s i other a item
-      (λ e own h. tied-nothing f x g k s (withCounted node s i) (numbered v) quiet
+      (λ e own few h. tied-nothing f x g k s (withCounted node s i) (numbered v) quiet
       (by-place k x (λ t. at-x v t (λ w. stored-own s i e w l (counted t e own w))) (stored-other e)))
-      (λ e own h. tied-confirm f x g k s (asking node s i) (numbered v) quiet
+      (λ e own few h. tied-confirm f x g k s (asking node s i) (numbered v) quiet
       (by-place k x (λ t. at-x v t (λ w. last-stored-own s i e w l (counted t e own w))) (last-stored-other e))
       (at-stage-seen (node .phase) Confirming (storing-live (node .phase) e)))
     where

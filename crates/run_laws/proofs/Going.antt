@@ -124,4 +124,4 @@ module _ (node : Node) where
   crash-not = crash-cases NotBack node (refused-not node) (quiet-not _)
 
   pub start-not : NotBack (startStep node)
-  start-not = start-cases NotBack node (refused-not node) (λ _. fetch-not _)
+  start-not = start-cases NotBack node (refused-not node) (λ _ _. fetch-not _)
