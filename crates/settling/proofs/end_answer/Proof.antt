@@ -1,8 +1,8 @@
--- `confirming::end_answer` meets its contract: one test.
+-- `settling::end_answer` meets its contract: one test.
 use Rattle.node.proofs.Answered.{answered}
 use Rattle.protocol.specs.Storing.{endAnswer}
-use Rattle.confirming.proofs.end_answer.Statement.{statement}
-use Rattle.confirming.proofs.end_answer.Tie as tie
+use Rattle.settling.proofs.end_answer.Statement.{statement}
+use Rattle.settling.proofs.end_answer.Tie as tie
 
 is-returning-requires : tie.Need-is-returning-requires
 is-returning-requires c κs = tt

@@ -1,8 +1,8 @@
--- `fetching::on_fetch` meets its contract: the test of the definition.
+-- `reply_fetch::on_fetch` meets its contract: the test of the definition.
 use Rattle.item.specs.Tests.{refuted, granted}
 use Rattle.protocol.specs.Fetching.{onFetch}
-use Rattle.fetching.proofs.on_fetch.Statement.{statement}
-use Rattle.fetching.proofs.on_fetch.Tie as tie
+use Rattle.reply_fetch.proofs.on_fetch.Statement.{statement}
+use Rattle.reply_fetch.proofs.on_fetch.Tie as tie
 
 is-up-requires : tie.Need-is-up-requires
 is-up-requires c κs = tt

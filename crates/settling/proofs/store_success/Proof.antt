@@ -1,7 +1,7 @@
--- `confirming::store_success` meets its contract: the answer and the node are those of the calls.
+-- `settling::store_success` meets its contract: the answer and the node are those of the calls.
 use Rattle.protocol.specs.Storing.{storeSuccess}
-use Rattle.confirming.proofs.store_success.Statement.{statement}
-use Rattle.confirming.proofs.store_success.Tie as tie
+use Rattle.settling.proofs.store_success.Statement.{statement}
+use Rattle.settling.proofs.store_success.Tie as tie
 
 own-item-requires : tie.Need-own-item-requires
 own-item-requires c κs = tt

@@ -1,8 +1,8 @@
--- `confirming::confirmed_counted` meets its contract: the count is held to f, both by calls.
+-- `settling::confirmed_counted` meets its contract: the count is held to f, both by calls.
 use borrow.Author.Tests.{lt-ltb, le-ltb}
 use Rattle.protocol.specs.Storing.{confirmedCounted}
-use Rattle.confirming.proofs.confirmed_counted.Statement.{statement}
-use Rattle.confirming.proofs.confirmed_counted.Tie as tie
+use Rattle.settling.proofs.confirmed_counted.Statement.{statement}
+use Rattle.settling.proofs.confirmed_counted.Tie as tie
 
 count-peers-requires : tie.Need-count-peers-requires
 count-peers-requires c κs = tt
