@@ -1,7 +1,6 @@
 // The engine over one node by value: every event, and a message delivered by its kind. Everything is proved, no public
 // function has a `requires`, and each gives what one definition of protocol's specs/ says.
 use confirming::on_confirmed;
-use fetching::on_fetch;
 use fetching::on_table;
 use item::Item;
 use message::Envelope;
@@ -10,6 +9,7 @@ pub use node::fresh_node;
 use protocol::Node;
 use protocol::Step;
 use reply_confirm::on_confirm;
+use reply_fetch::on_fetch;
 use reply_store::on_store;
 pub use restarting::crash;
 pub use restarting::start;

@@ -1,6 +1,14 @@
-// Drives three nodes by value through the events of the engine, and prints each answer and what is sent: a write to
-// settled; a crash, a start, the fetched tables and the write-back to accepted; and a return that stops at the row of
-// which two tables disagree. The stored output was worked out from document 01.
+// Drives three nodes by value through the events of the engine, and prints for each line of a script its answer, in the
+// words of the drill, and then each message that it sends: a write to settled; a crash, a start, the fetched tables and
+// the write-back to accepted; and a return that stops at the row of which two tables disagree. The stored output was
+// worked out from document 01.
+//
+// A line of a script is a letter, a sender and the node at which it happens:
+//   n, w, c, s: the node is set up, writes tag 65, crashes, or starts
+//   m: what the sender sent in its latest line reaches the node
+//   x: the node's row of node 2 takes index 7 with a tag of its own
+use answers::Reply;
+use answers::print_line;
 use engine::crash;
 use engine::deliver;
 use engine::fresh_node;
@@ -12,320 +20,209 @@ use item::Index;
 use item::Item;
 use item::Row;
 use item::Tag;
+use kinds::fields_of;
+use libc::STDOUT_FILENO;
 use message::Envelope;
-use message::Message;
+use node::with_row;
 use protocol::Answer;
 use protocol::Node;
 use protocol::Sends;
 use protocol::Step;
-use refusals::refusal_number;
+use sending::outgoing_of;
+use sending::row_items;
 
-// The nodes of a group of three.
-struct Trio {
-    first: Node,
-    second: Node,
-    third: Node,
-}
+// The nodes of the group.
+const NODES: usize = 3;
 
-fn text(bytes: &[u8]) {
-    io::write_all(1, bytes);
-}
-
-fn number(x: u64) {
-    io::print_decimal(1, x);
-}
-
-fn print_item(item: Item) {
-    number(item.index.0);
-    text(b" ");
-    number(item.tag.0);
-}
-
-fn print_store(attempt: Attempt, item: Item) {
-    text(b" attempt ");
-    number(attempt.0 as u64);
-    text(b" item ");
-    print_item(item);
-}
-
-fn print_other(other: Incarnation) {
-    text(b" other ");
-    number(other.0 as u64);
-}
-
-fn print_kind(message: Message) {
-    match message {
-        Message::Store {
-            attempt: _,
-            item: _,
-        } => text(b"Store"),
-        Message::Stored {
-            other: _,
-            attempt: _,
-            item: _,
-        } => text(b"Stored"),
-        Message::Confirm {
-            other: _,
-            attempt: _,
-            item: _,
-        } => text(b"Confirm"),
-        Message::Confirmed {
-            other: _,
-            attempt: _,
-            item: _,
-        } => text(b"Confirmed"),
-        Message::Fetch => text(b"Fetch"),
-        Message::Table { other: _ } => text(b"Table"),
+// The node that a script's digit names.
+fn node_at(digit: u8) -> usize {
+    match digit {
+        b'0' => 0,
+        b'1' => 1,
+        _ => 2,
     }
 }
 
-fn print_reply(other: Incarnation, attempt: Attempt, item: Item) {
-    print_other(other);
-    print_store(attempt, item);
+fn word(text: &[u8], x: u64) {
+    io::write_all(STDOUT_FILENO, text);
+    io::print_decimal(STDOUT_FILENO, x);
 }
 
-fn print_message(message: Message) {
-    print_kind(message);
-    match message {
-        Message::Store { attempt, item } => print_store(attempt, item),
-        Message::Stored {
-            other,
-            attempt,
-            item,
-        } => print_reply(other, attempt, item),
-        Message::Confirm {
-            other,
-            attempt,
-            item,
-        } => print_reply(other, attempt, item),
-        Message::Confirmed {
-            other,
-            attempt,
-            item,
-        } => print_reply(other, attempt, item),
-        Message::Fetch => text(b""),
-        Message::Table { other } => print_other(other),
+// Some of the bytes; nothing where they are not there.
+fn print_part(bytes: &[u8], start: usize, end: usize) {
+    if end < start {
+        return;
+    }
+    if end <= bytes.len() {
+        io::write_all(STDOUT_FILENO, &bytes[start..end]);
     }
 }
 
-// The answer, in the words of the drill.
-fn print_answer(answer: Answer) {
-    match answer {
-        Answer::Ok => text(b"ok"),
-        Answer::Settled(item) => {
-            text(b"settled ");
-            print_item(item);
-        }
-        Answer::Accepted(item) => {
-            text(b"accepted ");
-            print_item(item);
-        }
-        Answer::Stopped(row) => {
-            text(b"stopped ");
-            number(row as u64);
-        }
-        Answer::Refused(why) => {
-            text(b"refused ");
-            number(refusal_number(why));
-        }
+// The name of a kind of message, by its number.
+fn print_kind(kind: u8) {
+    if kind < 1 {
+        return;
     }
+    if 6 < kind {
+        return;
+    }
+    let start = (kind - 1) as usize * 9;
+    print_part(
+        b"Store    Stored   Confirm  ConfirmedFetch    Table    ",
+        start,
+        start + 9,
+    );
 }
 
-fn print_sends(sends: Sends) {
-    match sends {
-        Sends::Nothing => text(b"\n"),
-        Sends::Back(message) => {
-            text(b"; back ");
-            print_message(message);
-            text(b"\n");
-        }
-        Sends::Others(message) => {
-            text(b"; to all others ");
-            print_message(message);
-            text(b"\n");
-        }
-        Sends::Asked(attempt, item) => {
-            text(b"; to those asked Confirm");
-            print_store(attempt, item);
-            text(b"\n");
-        }
-    }
+// One message: to whom, and its fields; 0 where its kind has none.
+fn print_message(envelope: Envelope) {
+    let fields = fields_of(envelope);
+    let other = fields.other;
+    let attempt = fields.attempt;
+    let item = fields.item;
+    print_kind(fields.kind);
+    word(b" to ", fields.addressee as u64);
+    word(b" other ", other.0 as u64);
+    word(b" attempt ", attempt.0 as u64);
+    word(b" item ", item.index.0);
+    word(b" ", item.tag.0);
+    io::write_all(STDOUT_FILENO, b"\n");
 }
 
-// The rest of a line: the answer, and what is sent.
-fn report(step: Step) -> Step {
-    text(b": ");
-    let answer = step.answer;
-    print_answer(answer);
+fn print_sends(step: Step, back: usize) {
+    let node = step.node;
     let sends = step.sends;
-    print_sends(sends);
-    step
-}
-
-fn do_write(node: Node, tag: Tag) -> Step {
-    text(b"write ");
-    number(node.number as u64);
-    text(b" tag ");
-    number(tag.0);
-    report(write(node, tag))
-}
-
-fn do_crash(node: Node) -> Step {
-    text(b"crash ");
-    number(node.number as u64);
-    report(crash(node))
-}
-
-fn do_start(node: Node) -> Step {
-    text(b"start ");
-    number(node.number as u64);
-    report(start(node))
-}
-
-// The items of a node's rows, as its Table has them.
-fn items_of(rows: [Row; Node::MAX_ROWS]) -> [Item; Node::MAX_ROWS] {
-    let zero = Item::zero();
-    let mut items = [zero; Node::MAX_ROWS];
-    let mut i: usize = 0;
-    while i < Node::MAX_ROWS {
-        let row = rows[i];
-        let item = row.item;
-        items[i] = item;
-        i += 1;
-    }
-    items
-}
-
-// The message that a step sends to this node. (A step that sends nothing is not handed on.)
-fn message_to(step: Step, to: usize) -> Message {
-    let sends = step.sends;
-    match sends {
-        Sends::Nothing => Message::Fetch,
-        Sends::Back(message) => message,
-        Sends::Others(message) => message,
-        Sends::Asked(attempt, item) => {
-            let node = step.node;
-            let asked = node.asked;
-            let mut other = Incarnation(0);
-            if to < Node::MAX_ROWS {
-                let peer = asked[to];
-                other = peer.incarnation;
-            }
-            Message::Confirm {
-                other: other,
-                attempt: attempt,
-                item: item,
-            }
+    let places = outgoing_of(node, sends, back);
+    let mut k: usize = 0;
+    while k < NODES {
+        let place = places[k];
+        let envelope = place.envelope;
+        if place.present {
+            print_message(envelope);
         }
+        k += 1;
     }
 }
 
-// What a step sends reaches this node.
-fn hand(from: Step, to: Node) -> Step {
+fn print_answer(answer: Answer, count: u64) {
+    let mut line = [0u8; answers::LINE_ROOM];
+    let end = print_line(&mut line, 0, count, Reply::Answered(answer));
+    print_part(&line, 0, end);
+}
+
+// What the sender's latest step sent reaches this node.
+fn handed(from: Step, to: Node) -> Step {
+    let number = to.number;
+    if Node::MAX_ROWS <= number {
+        return from;
+    }
     let sender = from.node;
-    let message = message_to(from, to.number);
-    print_kind(message);
-    text(b" from ");
-    number(sender.number as u64);
-    text(b" at ");
-    number(to.number as u64);
-    let incarnation = sender.incarnation;
-    let rows = sender.rows;
-    let envelope = Envelope {
-        sender: sender.number,
-        addressee: to.number,
-        incarnation: incarnation,
-        message: message,
-    };
-    report(deliver(to, envelope, items_of(rows)))
+    let sends = from.sends;
+    let places = outgoing_of(sender, sends, number);
+    let place = places[number];
+    let envelope = place.envelope;
+    deliver(to, envelope, row_items(sender))
 }
 
-// The write of node 0 that has begun goes through both rounds with node 1, and the last message comes twice.
-fn both_rounds(begun: Step, nodes: Trio) -> Trio {
-    let stored = hand(begun, nodes.second);
-    let asking = hand(stored, begun.node);
-    let confirmed = hand(asking, stored.node);
-    let ended = hand(confirmed, asking.node);
-    let first = ended.node;
-    hand(confirmed, first);
-    let second = confirmed.node;
-    let third = nodes.third;
-    Trio {
-        first: first,
-        second: second,
-        third: third,
-    }
-}
-
-// The node that has started fetches the tables of two others.
-fn two_tables(started: Step, second: Node, third: Node) -> Step {
-    let table = hand(started, second);
-    let counted = hand(table, started.node);
-    let table = hand(started, third);
-    hand(table, counted.node)
-}
-
-// A node whose row of node 2 has this item.
-fn with_item(node: Node, index: u64, tag: u64) -> Node {
-    let mut next = node;
+// The node's row of node 2 takes index 7, with the node's number as tag.
+fn disagreeing(node: Node) -> Step {
     let row = Row {
         item: Item {
-            index: Index(index),
-            tag: Tag(tag),
+            index: Index(7),
+            tag: Tag(node.number as u64),
         },
         incarnation: Incarnation(1),
         attempt: Attempt(1),
         marked: false,
     };
-    next.rows[2] = row;
+    Step {
+        answer: Answer::Ok,
+        node: with_row(node, 2, row),
+        sends: Sends::Nothing,
+    }
+}
+
+// What a line's letter does at the node of this number.
+fn event(letter: u8, from: Step, number: usize, node: Node) -> Step {
+    match letter {
+        b'n' => fresh_step(number),
+        b'w' => write(node, Tag(65)),
+        b'c' => crash(node),
+        b's' => start(node),
+        b'x' => disagreeing(node),
+        _ => handed(from, node),
+    }
+}
+
+// A node as it is set up.
+fn fresh_step(number: usize) -> Step {
+    Step {
+        answer: Answer::Ok,
+        node: fresh_node(number, NODES),
+        sends: Sends::Nothing,
+    }
+}
+
+// One line of a script. A node is kept with what its latest line answered and sent.
+fn take_line(
+    steps: [Step; NODES],
+    letter: u8,
+    from: usize,
+    to: usize,
+    count: u64,
+) -> [Step; NODES] {
+    if NODES <= from {
+        return steps;
+    }
+    if NODES <= to {
+        return steps;
+    }
+    let sent = steps[from];
+    let held = steps[to];
+    let step = event(letter, sent, to, held.node);
+    let answer = step.answer;
+    print_answer(answer, count);
+    print_sends(step, from);
+    let mut next = steps;
+    next[to] = step;
     next
 }
 
-// A write, settled.
-fn run_write(nodes: Trio) -> Trio {
-    let begun = do_write(nodes.first, Tag(65));
-    both_rounds(begun, nodes)
+// The line that ends at this byte of the script, if one does: the fourth byte of each line is a space.
+fn take_byte(steps: [Step; NODES], script: &[u8], i: usize) -> [Step; NODES] {
+    if script.len() <= i {
+        return steps;
+    }
+    if i < 3 {
+        return steps;
+    }
+    if i % 4 != 3 {
+        return steps;
+    }
+    let letter = script[i - 3];
+    let from = node_at(script[i - 2]);
+    let to = node_at(script[i - 1]);
+    print_part(script, i - 3, i + 1);
+    take_line(steps, letter, from, to, ((i + 1) / 4) as u64)
 }
 
-// A crash, and the return to accepted.
-fn run_return(nodes: Trio) -> Trio {
-    let down = do_crash(nodes.first);
-    let started = do_start(down.node);
-    let returning = two_tables(started, nodes.second, nodes.third);
-    both_rounds(returning, nodes)
+// Takes the lines of a script; each node is set up by a line of its own.
+fn run(script: &[u8]) {
+    let none = fresh_step(0);
+    let mut steps = [none; NODES];
+    let mut i = 0;
+    while i < script.len() {
+        let next = take_byte(steps, script, i);
+        steps = next;
+        i += 1;
+    }
 }
 
-// Two tables that disagree on the row of node 2; then a late table of the earlier start, and one that comes twice.
-fn run_conflict(nodes: Trio) -> Node {
-    let second = with_item(nodes.second, 7, 1);
-    let third = with_item(nodes.third, 7, 2);
-    let down = do_crash(nodes.first);
-    let started = do_start(down.node);
-    let stopped = two_tables(started, second, third);
-    let again = do_start(stopped.node);
-    let late = hand(started, second);
-    hand(late, again.node);
-    let table = hand(again, second);
-    let counted = hand(table, again.node);
-    hand(table, counted.node);
-    counted.node
-}
-
-// A node that is Fetching does not answer another's Fetch.
-fn run_unanswered(fetching: Node, node: Node) {
-    let down = do_crash(node);
-    let started = do_start(down.node);
-    hand(started, fetching);
-}
-
+// Lines 1 to 9: a write, settled with node 1; the last message comes twice.
+// Lines 10 to 20: a crash, the return with two tables, and the write-back, accepted; the last message comes twice.
+// Lines 21 to 28: two tables that disagree on the row of node 2, and the return stops.
+// Lines 29 to 33: another start, a late table of the earlier one, and a table that comes twice.
+// Lines 34 to 36: node 2 starts too, and a node that is Fetching does not answer its Fetch.
 fn main() {
-    let fresh = Trio {
-        first: fresh_node(0, 3),
-        second: fresh_node(1, 3),
-        third: fresh_node(2, 3),
-    };
-    let settled = run_write(fresh);
-    let accepted = run_return(settled);
-    let fetching = run_conflict(accepted);
-    run_unanswered(fetching, accepted.third);
+    run(b"n00 n11 n22 w00 m01 m10 m01 m10 m10 c00 s00 m01 m02 m10 m20 m01 m10 m01 m10 m10 x11 x22 c00 s00 m01 m02 m10 m20 s00 m01 m20 m10 m10 c22 s22 m20 ");
 }

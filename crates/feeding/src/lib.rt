@@ -2,10 +2,10 @@
 // and what a piece does is stated by the crate `progress`.
 use answers::LINE_ROOM;
 use answers::print_line;
+use pending::Pending;
+use pending::read_pending;
 use progress::Fed;
 use progress::Progress;
-use script::Pending;
-use script::read_pending;
 use session::take_line;
 ghost use Rattle.progress.specs.Feeding.{Taken};
 

@@ -1,35 +1,20 @@
-// Delivery of Fetch and Table to one node by value. Everything is proved, no public function has a `requires`, and each
-// gives what one definition of protocol's specs/Fetching says.
+// Delivery of Table to one node by value: a node that is Fetching counts it. Everything is proved, no public function has a
+// `requires`, and each gives what one definition of protocol's specs/Fetching says.
 use item::Incarnation;
 use item::Item;
 use merging::merge_rows;
-use message::Message;
 use node::count_peers;
 use node::is_counted;
 use node::with_counted;
 use node::with_rows;
 use phase::is_fetching;
-use phase::is_up;
 use protocol::Node;
 use protocol::Refusal;
-use protocol::Sends;
 use protocol::Step;
 use recovering::table_counted;
-use step::ok;
 use step::refused;
 ghost use mathlib.Core.Path.{_≡_};
-ghost use Rattle.protocol.specs.Fetching.{onFetch, noneCounted, withTable, onTable};
-
-// Fetch: refused with 9 unless the node is Up; otherwise its rows go back in a Table.
-pub fn on_fetch(node: Node, incarnation: Incarnation) -> Step
-    ensures { λ r. ⌜ r ≡ onFetch node incarnation ⌝ }
-{
-    let phase = node.phase;
-    if !is_up(phase) {
-        return refused(node, Refusal::NotTaken);
-    }
-    ok(node, Sends::Back(Message::Table { other: incarnation }))
-}
+ghost use Rattle.protocol.specs.Fetching.{noneCounted, withTable, onTable};
 
 // Table: refused with 9, 10 or 11; otherwise the sender's table is counted.
 pub fn on_table(

@@ -1,12 +1,12 @@
 // A node as it is set up, crashes and starts. Everything is proved, no public function has a `requires`, and each gives
 // what one definition of the crate `protocol` says.
-use change::write_ended;
 use item::Attempt;
 use item::Incarnation;
 use item::Row;
 use protocol::Node;
 use protocol::Peer;
 use protocol::Phase;
+use protocol::Stage;
 ghost use mathlib.Core.Path.{_≡_};
 ghost use Rattle.protocol.specs.Node.{crashed as crashedNode, started as startedNode, freshNode};
 
@@ -41,6 +41,17 @@ pub fn started(node: Node) -> Node
 pub fn fresh_node(number: usize, n: usize) -> Node
     ensures { λ r. ⌜ r ≡ freshNode number n ⌝ }
 {
-    let blank = Node::blank(number, n, Incarnation(1));
-    write_ended(blank)
+    let attempt = Attempt(0);
+    let row = Row::zero();
+    let peer = Peer::none();
+    Node {
+        number: number,
+        n: n,
+        incarnation: Incarnation(1),
+        attempt: attempt,
+        phase: Phase::Up(Stage::Idle),
+        rows: [row; Node::MAX_ROWS],
+        counted: [peer; Node::MAX_ROWS],
+        asked: [peer; Node::MAX_ROWS],
+    }
 }

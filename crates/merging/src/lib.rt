@@ -6,28 +6,7 @@ use item::Item;
 use item::Row;
 use protocol::Node;
 ghost use mathlib.Core.Path.{_≡_};
-ghost use Rattle.protocol.specs.Merge.{markedRow, mergeRow, mergeRows, lowestMarked};
-
-// The row that a table's item makes, with no counters and with this mark.
-fn fetched_row(item: Item, marked: bool) -> Row
-    ensures { λ r. ⌜ r ≡ record { item = item; incarnation = record { 0 = 0 }; attempt = record { 0 = 0 }; marked = marked } ⌝ }
-{
-    Row {
-        item: item,
-        incarnation: Incarnation(0),
-        attempt: Attempt(0),
-        marked: marked,
-    }
-}
-
-// The same row, marked.
-fn marked_row(row: Row) -> Row
-    ensures { λ r. ⌜ r ≡ markedRow row ⌝ }
-{
-    let mut next = row;
-    next.marked = true;
-    next
-}
+ghost use Rattle.protocol.specs.Merge.{mergeRow, mergeRows, lowestMarked};
 
 // A row after one more table with this item for it. The first table's item is taken whatever the row is; later a
 // greater index is taken, unmarked, a lower one changes nothing, and an equal one with another tag marks the row.
@@ -35,10 +14,20 @@ pub fn merge_row(first: bool, row: Row, item: Item) -> Row
     ensures { λ r. ⌜ r ≡ mergeRow first row item ⌝ }
 {
     if first {
-        return fetched_row(item, false);
+        return Row {
+            item: item,
+            incarnation: Incarnation(0),
+            attempt: Attempt(0),
+            marked: false,
+        };
     }
     if row.item.ranks_below(item) {
-        return fetched_row(item, false); // and the mark is cleared
+        return Row {
+            item: item,
+            incarnation: Incarnation(0),
+            attempt: Attempt(0),
+            marked: false, // and the mark is cleared
+        };
     }
     if item.ranks_below(row.item) {
         return row;
@@ -46,7 +35,9 @@ pub fn merge_row(first: bool, row: Row, item: Item) -> Row
     if item.same(row.item) {
         return row;
     }
-    marked_row(row)
+    let mut next = row;
+    next.marked = true;
+    next
 }
 
 // Every row after one more table, whose items are in the order of the rows.

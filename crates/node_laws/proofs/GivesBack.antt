@@ -17,10 +17,9 @@ use Rattle.protocol.specs.declared.Answer.the-variants as answer
 use Rattle.protocol.specs.declared.Node.{Node}
 use Rattle.protocol.specs.declared.Refusal.{Refusal}
 use Rattle.protocol.specs.declared.Sends.{Sends}
-use Rattle.protocol.specs.declared.Sends.the-variants as sends
 use Rattle.protocol.specs.declared.Step.{Step}
 use Rattle.node_laws.specs.Decision.{Decision}
-use Rattle.node_laws.specs.Laws.{RefusedGivesBack}
+use Rattle.node_laws.specs.Laws.{GivesBack, RefusedGivesBack}
 use Rattle.node_laws.proofs.Outcome.{
   Received,
   declines,
@@ -44,11 +43,6 @@ use Rattle.node_laws.proofs.Outcome.{
   receives,
   outcome,
 }
-
--- a refusal gives back the node
-abbrev GivesBack : Node → Step → Type 0
-GivesBack node step =
-    (why : Refusal) → step .answer ≡ answer.Refused why → (step .node ≡ node) × (step .sends ≡ sends.Nothing)
 
 by-refused : (node : Node) (why : Refusal) → GivesBack node (refused node why)
 unfolding refused

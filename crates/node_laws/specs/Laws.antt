@@ -8,15 +8,19 @@ use Rattle.protocol.specs.declared.Answer.the-variants as answer
 use Rattle.protocol.specs.declared.Node.{Node}
 use Rattle.protocol.specs.declared.Refusal.{Refusal}
 use Rattle.protocol.specs.declared.Sends.the-variants as sends
+use Rattle.protocol.specs.declared.Step.{Step}
 use Rattle.node_laws.specs.Decision.{Decision, decide, after, Stands, MayCome}
 use Rattle.node_laws.specs.Fields.{Leaves, changed}
 use Rattle.node_laws.specs.OwnItem.{OwnItem}
 
--- "A refusal changes no byte": a refused decision gives back the node, and sends nothing
+-- a step at this node that is refused gives back the node, and sends nothing
+abbrev pub GivesBack : Node → Step → Type 0
+GivesBack node step =
+    (why : Refusal) → step .answer ≡ answer.Refused why → (step .node ≡ node) × (step .sends ≡ sends.Nothing)
+
+-- "A refusal changes no byte": so does every decision
 unfoldable pub RefusedGivesBack : Type 0
-RefusedGivesBack =
-    (d : Decision) (node : Node) (why : Refusal) → decide d node .answer ≡ answer.Refused why →
-    (after d node ≡ node) × (decide d node .sends ≡ sends.Nothing)
+RefusedGivesBack = (d : Decision) (node : Node) → GivesBack node (decide d node)
 
 -- each decision leaves alone every field that the table `changed` does not give it
 unfoldable pub OthersLeftAlone : Type 0

@@ -7,9 +7,9 @@ use protocol::Node;
 use protocol::Refusal;
 use protocol::Sends;
 use protocol::Step;
+use requests::send_fetch;
 use step::ok;
 use step::refused;
-use step::send_fetch;
 ghost use mathlib.Core.Path.{_≡_};
 ghost use Rattle.protocol.specs.Write.{crashStep, startStep};
 

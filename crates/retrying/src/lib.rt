@@ -10,9 +10,9 @@ use protocol::Node;
 use protocol::Refusal;
 use protocol::Stage;
 use protocol::Step;
+use requests::send_fetch;
+use requests::send_store;
 use step::refused;
-use step::send_fetch;
-use step::send_store;
 ghost use mathlib.Core.Path.{_≡_};
 ghost use Rattle.protocol.specs.Write.{retried as retriedNode, nothingToRetry, retryStep};
 

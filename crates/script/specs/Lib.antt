@@ -1,4 +1,3 @@
 pub mod Line
-pub mod Pending
 pub mod Reading
 pub mod Examples

@@ -1,5 +1,5 @@
-// The drill's script: its input lines read, and gathered from bytes that come one by one. Everything is proved, no
-// public function has a `requires`, and each gives what one definition of specs/ says.
+// The drill's script: its input lines read. Everything is proved, no public function has a `requires`, and each gives what
+// one definition of specs/ says.
 use decimal::Number;
 use decimal::number_in;
 use item::Tag;
@@ -7,7 +7,6 @@ use protocol::Event;
 ghost use mathlib.Core.Path.{_≡_};
 ghost use lib.ListN.{length};
 ghost use Rattle.script.specs.Line.{lettered, lineOf, tagIn, withNumber, word, writeOf};
-ghost use Rattle.script.specs.Pending.{noneYet, pendingLine, pushed};
 
 // What an input line asks for.
 pub enum Line {
@@ -24,42 +23,6 @@ pub enum TagField {
     None,
 }
 
-// The bytes of the present line that have come so far. A line of more than 64 bytes is no longer than 64 here; both
-// are unread, as every line of more than 43 bytes is.
-pub struct Pending {
-    pub bytes: [u8; Pending::MOST],
-    pub len: usize,
-}
-
-impl Pending {
-    // The most bytes that are kept of a line.
-    pub const MOST: usize = 64;
-
-    // A line of which nothing has come.
-    pub fn none() -> Pending
-        ensures { λ r. ⌜ r ≡ noneYet ⌝ }
-    {
-        Pending {
-            bytes: [0u8; Pending::MOST],
-            len: 0,
-        }
-    }
-
-    // The line with one more byte.
-    pub fn push(self, b: u8) -> Pending
-        ensures { λ r. ⌜ r ≡ pushed self b ⌝ }
-    {
-        let len = self.len;
-        if Pending::MOST <= len {
-            return self;
-        }
-        let mut next = self;
-        next.bytes[len] = b;
-        next.len = len + 1;
-        next
-    }
-}
-
 // What the line asks for: a letter, a space, and the numbers that the letter takes, separated by one space.
 pub fn read_line(s: &[u8]) -> Line
     ensures { λ r. ⌜ r ≡ lineOf (now (s .entry)) ⌝ }
@@ -72,18 +35,6 @@ pub fn read_line(s: &[u8]) -> Line
     }
     let letter = s[0];
     lettered_line(letter, &s[2..])
-}
-
-// What the bytes that have come ask for, as a whole line.
-pub fn read_pending(p: Pending) -> Line
-    ensures { λ r. ⌜ r ≡ pendingLine p ⌝ }
-{
-    let bytes = p.bytes;
-    let len = p.len;
-    if Pending::MOST < len {
-        return Line::Unread;
-    }
-    read_line(&bytes[..len])
 }
 
 // What a letter asks for with what stands after its space.

@@ -10,8 +10,8 @@ use protocol::Phase;
 use protocol::Refusal;
 use protocol::Stage;
 use protocol::Step;
+use requests::send_store;
 use step::refused;
-use step::send_store;
 ghost use mathlib.Core.Path.{_≡_};
 ghost use Rattle.protocol.specs.Write.{nextItem, writeAtLargest, written as writtenNode, writeStep};
 

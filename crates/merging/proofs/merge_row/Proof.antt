@@ -4,24 +4,16 @@ use Rattle.node.proofs.Answered.{answered}
 use Rattle.merging.proofs.merge_row.Statement.{statement}
 use Rattle.merging.proofs.merge_row.Tie as tie
 
-fetched-row-requires : tie.Need-fetched-row-requires
-fetched-row-requires c κs = tt
-
 returns : tie.Need-returns
 unfolding mergeRow
-returns c = rw (c .fetched-row .ensures, c .before .if1 .taken)
+returns c = rw (c .if1 .taken)
 
 ranks-below-requires : tie.Need-ranks-below-requires
 ranks-below-requires c κs = tt
 
-fetched-row-requires-2 : tie.Need-fetched-row-requires-2
-fetched-row-requires-2 c κs = tt
-
 returns-2 : tie.Need-returns-2
 unfolding mergeRow
-returns-2 c =
-    let b = c .before .before in
-    rw (c .fetched-row2 .ensures, b .before .if1 .left, answered (b .ranks-below .ensures) (c .before .if2 .taken))
+returns-2 c = rw (c .before .before .if1 .left, answered (c .before .ranks-below .ensures) (c .if2 .taken))
 
 ranks-below-requires-2 : tie.Need-ranks-below-requires-2
 ranks-below-requires-2 c κs = tt
@@ -51,35 +43,28 @@ returns-4 c =
       answered (c .before .same .ensures) (c .if4 .taken),
     )
 
-marked-row-requires : tie.Need-marked-row-requires
-marked-row-requires c κs = tt
-
 returns-5 : tie.Need-returns-5
 unfolding mergeRow
 returns-5 c =
-    let e = c .before .before in
+    let e = c .before in
     let d = e .before .before in
     let b = d .before .before in
     rw (
-      c .marked-row .ensures,
       b .before .if1 .left,
       answered (b .ranks-below .ensures) (d .before .if2 .left),
       answered (d .ranks-below2 .ensures) (e .before .if3 .left),
-      answered (e .same .ensures) (c .before .if4 .left),
+      answered (e .same .ensures) (c .if4 .left),
     )
 
 pub merge-row-spec : {M : Type 1} → statement M
 merge-row-spec =
     tie.close
     (tie.spec
-    fetched-row-requires
     returns
     ranks-below-requires
-    fetched-row-requires-2
     returns-2
     ranks-below-requires-2
     returns-3
     same-requires
     returns-4
-    marked-row-requires
     returns-5)

@@ -1,0 +1,54 @@
+-- `engine_runs::print_sends` is safe and ends: k goes up to the number of nodes.
+use Prim.Native.Nat.{_≤_, _-_}
+use borrow.Author.Needs.{needs}
+use Rattle.engine_runs.proofs.print_sends.Statement.{statement}
+use Rattle.engine_runs.proofs.print_sends.Tie as tie
+
+abbrev Inv-loop : tie.InvT-loop
+Inv-loop back places k₀ k = k ≤ 3
+
+abbrev μ-loop : tie.MeasureT-loop
+μ-loop back places k₀ k = 3 - k
+
+outgoing-of-requires : tie.Need-outgoing-of-requires Inv-loop μ-loop
+outgoing-of-requires c κs = search needs
+
+loop-holds : tie.Need-loop-holds Inv-loop μ-loop
+loop-holds c = search needs
+
+mul-place : tie.Need-mul-place Inv-loop μ-loop
+mul-place c = search needs
+
+array-copy-out-place : tie.Need-array-copy-out-place Inv-loop μ-loop
+array-copy-out-place c = search needs
+
+print-message-requires : tie.Need-print-message-requires Inv-loop μ-loop
+print-message-requires c κs = search needs
+
+add-k : tie.Need-add-k Inv-loop μ-loop
+add-k c = search needs
+
+loop-less : tie.Need-loop-less Inv-loop μ-loop
+loop-less c = search needs
+
+loop-again : tie.Need-loop-again Inv-loop μ-loop
+loop-again c = search needs
+
+returns : tie.Need-returns Inv-loop μ-loop
+returns c = search needs
+
+pub print-sends-spec : {M : Type 1} → statement M
+print-sends-spec =
+    tie.close
+    (tie.spec
+    Inv-loop
+    μ-loop
+    outgoing-of-requires
+    loop-holds
+    mul-place
+    array-copy-out-place
+    print-message-requires
+    add-k
+    loop-less
+    loop-again
+    returns)

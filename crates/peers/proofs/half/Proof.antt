@@ -1,0 +1,12 @@
+-- `peers::half` meets its contract: one division.
+use mathlib.Core.Path.{refl}
+use Rattle.protocol.specs.Node.{half}
+use Rattle.peers.proofs.half.Statement.{statement}
+use Rattle.peers.proofs.half.Tie as tie
+
+returns : tie.Need-returns
+unfolding half
+returns c = refl
+
+pub half-spec : {M : Type 1} → statement M
+half-spec = tie.close (tie.spec returns)
