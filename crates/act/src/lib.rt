@@ -9,7 +9,6 @@ use engine::retry;
 use engine::start;
 use engine::write;
 pub use looking::look;
-pub use looking::no_node;
 pub use outcome::Acted;
 pub use outcome::Seen;
 use outcome::refused;

@@ -50,7 +50,7 @@ pub fn set_up(table: &mut [Node], store: &mut [u8], n: u64) -> Answer
     ensures { λ r. ⌜ (r ≡ operation.setUp n (now (table .entry)) (now (store .entry)) .answer) × ((now (table .exit) ≡ operation.setUp n (now (table .entry)) (now (store .entry)) .table) × (now (store .exit) ≡ operation.setUp n (now (table .entry)) (now (store .entry)) .store)) ⌝ }
 {
     let prepared = prepare(store, n as usize, table.len());
-    table::fill_table(table, prepared.fresh);
+    table_fill::fill_table(table, prepared.fresh);
     prepared.answer
 }
 
@@ -59,6 +59,6 @@ pub fn perform(table: &mut [Node], store: &mut [u8], event: Event) -> Answer
     ensures { λ r. ⌜ (r ≡ operation.perform event (now (table .entry)) (now (store .entry)) .answer) × ((now (table .exit) ≡ operation.perform event (now (table .entry)) (now (store .entry)) .table) × (now (store .exit) ≡ operation.perform event (now (table .entry)) (now (store .entry)) .store)) ⌝ }
 {
     let seen = act::look(store, event);
-    let sound = table::check_table(table, seen.n);
+    let sound = table_check::check_table(table, seen.n);
     place::act_at_place(table, store, sound, seen, event)
 }

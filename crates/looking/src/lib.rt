@@ -1,12 +1,9 @@
 // What is seen of store and event before the table is read. Everything is proved, no public function has a `requires`,
 // and each gives what one definition of the crate `outcome` says.
-use item::Incarnation;
 use outcome::Seen;
 use protocol::Event;
-use protocol::Node;
 use record::Reading;
 ghost use mathlib.Core.Path.{_≡_};
-ghost use Rattle.protocol.specs.Table.{noNode};
 ghost use Rattle.store.specs.Sound.{messageAt};
 ghost use Rattle.outcome.specs.Act.{addresseeOf, placeOf, lookAt};
 
@@ -54,11 +51,4 @@ pub fn look(s: &[u8], event: Event) -> Seen
         free: survey.free,
         place: whose,
     }
-}
-
-// What stands where the table has no node.
-pub fn no_node() -> Node
-    ensures { λ r. ⌜ r ≡ noNode ⌝ }
-{
-    Node::blank(0, 0, Incarnation(0))
 }

@@ -18,7 +18,7 @@ pub fn act_at_place(
 ) -> Answer
     ensures { λ r. ⌜ (r ≡ atPlace event sound seen (now (table .entry)) (now (store .entry)) .answer) × ((now (table .exit) ≡ atPlace event sound seen (now (table .entry)) (now (store .entry)) .table) × (now (store .exit) ≡ atPlace event sound seen (now (table .entry)) (now (store .entry)) .store)) ⌝ }
 {
-    let node = table::node_or(table, seen.place, act::no_node());
+    let node = table::node_at(table, seen.place);
     let acted = act::act(store, node, sound, seen, event);
     table::replace_node(table, seen.place, acted.node);
     acted.answer

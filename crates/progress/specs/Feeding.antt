@@ -14,6 +14,7 @@ use Rattle.pending.specs.declared.Pending.{Pending}
 use Rattle.progress.specs.Turn.{Done, noGroup, lineDone}
 use Rattle.progress.specs.Drill.{lastOutput}
 use Rattle.progress.specs.declared.Drill.{Drill}
+use Rattle.progress.specs.declared.Fed.{Fed}
 use Rattle.progress.specs.declared.Progress.{Progress}
 
 -- where the drill begins
@@ -31,6 +32,10 @@ pendingOutput count pending drill store (b ∷ bs) =
 
 unfoldable pub progressOutput : Progress → List ℕ → List ℕ → List ℕ
 progressOutput p store bs = pendingOutput (p .count) (p .pending) (p .drill) store bs
+
+-- how far a piece was taken, how many bytes were printed for it, and where the drill stands then
+abbrev pub fedAt : ℕ → ℕ → ℕ → Pending → Drill → Fed
+fedAt next at count pending drill = record { next = next; at = at; progress = record { count = count; pending = pending; drill = drill } }
 
 -- a piece of the input was taken up to `next`, and what it prints stands in the first `at` bytes of `out`: whatever comes
 -- after the piece, the rest of the output is what is printed from here on. All of the piece was taken, unless there was

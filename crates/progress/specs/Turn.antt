@@ -47,14 +47,21 @@ sizeAfter n before answer = cond (isRefused answer) before n
 unfoldable pub begun : ℕ → Drill → Result → Done
 begun n drill result = answered (sizeAfter n (drill .n) (result .answer)) n drill result
 
--- an event of the group that stands. "any line but `n` before the first accepted `n`" is unread
+-- an event of the group that stands
 unfoldable pub called : Event → Drill → List ℕ → Done
-called event drill store =
-    cond (eqb (drill .n) 0) (unread drill store)
-    (answered (drill .n) (drill .n) drill (perform event (take (drill .n) (drill .nodes)) store))
+called event drill store = answered (drill .n) (drill .n) drill (perform event (take (drill .n) (drill .nodes)) store)
+
+-- "any line but `n` before the first accepted `n`" is unread
+unfoldable pub lineFor : ℕ → Line → Line
+lineFor n (SetUp k) = SetUp k
+lineFor n (Call event) = cond (eqb n 0) Unread (Call event)
+lineFor n Unread = Unread
 
 -- "Any other line prints `unread` after its count"
+unfoldable pub readDone : Line → Drill → List ℕ → Done
+readDone (SetUp n) drill store = begun n drill (setUp n (take n (drill .nodes)) store)
+readDone (Call event) drill store = called event drill store
+readDone Unread drill store = unread drill store
+
 unfoldable pub lineDone : Line → Drill → List ℕ → Done
-lineDone (SetUp n) drill store = begun n drill (setUp n (take n (drill .nodes)) store)
-lineDone (Call event) drill store = called event drill store
-lineDone Unread drill store = unread drill store
+lineDone line drill store = readDone (lineFor (drill .n) line) drill store

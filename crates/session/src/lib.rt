@@ -1,32 +1,17 @@
-// What one line of a drill does to its group of nodes and its store. Everything is proved, no public function has a
-// `requires`, and each gives what one definition of the crate `progress` says.
+// What a line of a drill that is read does to its group of nodes and its store. Everything is proved, no public function
+// has a `requires`, and each gives what one definition of the crate `progress` says.
 use answers::Reply;
 use progress::Drill;
 use progress::Turn;
 use protocol::Answer;
 use protocol::Event;
-use script::Line;
 ghost use mathlib.Core.Path.{_≡_};
 ghost use lib.ListN.{take};
 ghost use Rattle.protocol.specs.Operation as operation;
-ghost use Rattle.progress.specs.Turn.{begun, called, lineDone, sizeAfter};
-
-// What a line does.
-pub fn take_line(drill: Drill, store: &mut [u8], line: Line) -> Turn
-    ensures { λ r. ⌜ (r ≡ lineDone line drill (now (store .entry)) .turn) × (now (store .exit) ≡ lineDone line drill (now (store .entry)) .store) ⌝ }
-{
-    match line {
-        Line::SetUp(n) => begin(drill, store, n),
-        Line::Call(event) => call(drill, store, event),
-        Line::Unread => Turn {
-            reply: Reply::Unread,
-            drill: drill,
-        },
-    }
-}
+ghost use Rattle.progress.specs.Turn.{begun, called, sizeAfter};
 
 // Set up of a group of n. A refused one leaves the group that stands.
-fn begin(drill: Drill, store: &mut [u8], n: u64) -> Turn
+pub fn begin(drill: Drill, store: &mut [u8], n: u64) -> Turn
     ensures { λ r. ⌜ (r ≡ begun n drill (operation.setUp n (take n (drill .nodes)) (now (store .entry))) .turn) × (now (store .exit) ≡ begun n drill (operation.setUp n (take n (drill .nodes)) (now (store .entry))) .store) ⌝ }
 {
     let held = drill.nodes;
@@ -55,17 +40,11 @@ fn size_after(n: u64, before: u64, answer: Answer) -> u64
     }
 }
 
-// An event of the group that stands; unread where none does.
-fn call(drill: Drill, store: &mut [u8], event: Event) -> Turn
+// An event of the group that stands.
+pub fn call(drill: Drill, store: &mut [u8], event: Event) -> Turn
     ensures { λ r. ⌜ (r ≡ called event drill (now (store .entry)) .turn) × (now (store .exit) ≡ called event drill (now (store .entry)) .store) ⌝ }
 {
     let n = drill.n;
-    if n == 0 {
-        return Turn {
-            reply: Reply::Unread,
-            drill: drill,
-        };
-    }
     let held = drill.nodes;
     let outcome = lending::perform(held, n, store, event);
     let nodes = outcome.nodes;

@@ -1,11 +1,15 @@
 -- `feeding::feed` meets its contract. The invariant: what is printed so far, with what is left to come, is the output
--- that was to come at the start (`Upto`); a byte and a line each keep it.
+-- that was to come at the start (`Upto`); a byte and a line of each kind keep it.
 use Prim.Native.Nat.{_+_, _-_, _<_, _≤_, _^_}
 use native.Mathlib.Omega.{arith}
 use mathlib.Core.Path.{_≡_, refl, sym, ap, _∙_}
-use mathlib.Core.Logic.{inl, inr}
+use mathlib.Core.Logic.{inl, inr, ⊎-elim}
 use lib.ListN.{length}
 use Rattle.answers.specs.Output.{lineRoom}
+use Rattle.answers.specs.declared.Reply.the-variants as reply
+use Rattle.script.specs.declared.Line.{Line}
+use Rattle.progress.specs.declared.Turn.{Turn}
+use Rattle.progress.specs.Turn.{Done, lineDone, lineFor, readDone, unread}
 use Rattle.progress.specs.Feeding.{progressOutput}
 use Rattle.progress.specs.FeedingLaws.{Upto, one-byte, one-line, line-within}
 use borrow.Author.Needs.{needs}
@@ -59,31 +63,41 @@ sub-if2 c = search needs
 read-pending-requires : tie.Need-read-pending-requires Inv-loop μ-loop
 read-pending-requires c κs = search needs
 
-take-line-requires : tie.Need-take-line-requires Inv-loop μ-loop
-take-line-requires c κs = search needs
+line-for-requires : tie.Need-line-for-requires Inv-loop μ-loop
+line-for-requires c κs = search needs
 
 none-requires : tie.Need-none-requires Inv-loop μ-loop
 none-requires c κs = search needs
 
 add-count : tie.Need-add-count Inv-loop μ-loop
-add-count c = record { fits = omega (arith, c .before .before .before .before .before .before .before .if3 .left, c .before .before .before .before .before .before .before .before .before .before .before .before .loop .inv .0) }
-
-print-line-requires : tie.Need-print-line-requires Inv-loop μ-loop
-print-line-requires c κs = search needs
+add-count c = record { fits = omega (arith, c .before .before .before .if3 .left, c .before .before .before .before .before .before .before .before .loop .inv .0) }
 
 add-next-2 : tie.Need-add-next-2 Inv-loop μ-loop
 add-next-2 c = search needs
+
+enum-known-line : tie.Need-enum-known-line Inv-loop μ-loop
+enum-known-line c = search needs
+
+begin-requires : tie.Need-begin-requires Inv-loop μ-loop
+begin-requires c κs = search needs
+
+print-line-requires : tie.Need-print-line-requires Inv-loop μ-loop
+print-line-requires c κs = search needs
 
 loop-less-2 : tie.Need-loop-less-2 Inv-loop μ-loop
 loop-less-2 c = search needs
 
 loop-again-2 : tie.Need-loop-again-2 Inv-loop μ-loop
+unfolding lineDone readDone
 loop-again-2 c =
-    let b = c .before .before .before .before .before .before .before .before in
-    let l = c .before .before .before .before .before .before .before .before .before .before .before .before .before .before .before .before .loop in
-    let room : l .at + lineRoom ≤ length (l .out) = omega (arith, b .before .before .before .before .if2 .left, l .inv .1 .1 .0) in
-    let w = line-within (l .out) (l .at) (l .count + 1) (b .take-line .result .reply) _ _ (l .inv .1 .1 .0) (c .before .before .print-line .ensures) in (
-      omega (arith, b .before .before .before .if3 .left, l .inv .0),
+    let p = c .before .before .before .before .before .before .before .before .before .before .before .before in
+    let l = p .before .before .before .before .before .before .before .before .loop in
+    let room : l .at + lineRoom ≤ length (l .out) = omega (arith, p .before .before .before .before .if2 .left, l .inv .1 .1 .0) in
+    let line = p .before .line-for .ensures ∙ ap (lineFor (l .drill .n)) (p .before .before .read-pending .ensures) in
+    let e = c .before .before .before .before .before .before .before .begin .ensures in
+    let d = ap (λ (x : Line). readDone x (l .drill) (l .store)) (sym line ∙ c .before .before .before .before .before .before .before .before .before .before .line .given .1) in
+    let w = line-within (l .out) (l .at) (l .count + 1) (c .before .before .before .before .before .before .before .begin .result .reply) _ _ (l .inv .1 .1 .0) (c .before .before .print-line .ensures) in (
+      omega (arith, p .before .before .before .if3 .left, l .inv .0),
       (
         omega arith,
         (
@@ -92,12 +106,88 @@ loop-again-2 c =
             search needs,
             (
               w .1 ∙ l .inv .1 .1 .1 .1 .0,
-              rw (c .before .before .before .before .none .ensures) (one-line _ _ _ _ _ (l .out) (l .at) (l .next) (l .count) (l .pending) (l .drill) (l .store) (c .before .before .before .before .before .before .before .before .before .before .before .before .before .before .before .loop-test .taken) (c .before .before .before .before .before .before .before .before .before .before .before .before .before .if1 .left) room (b .take-line .result) _ _ _ (rw (b .before .read-pending .ensures) at (b .take-line .ensures .0)) (rw (b .before .read-pending .ensures) at (b .take-line .ensures .1)) (c .before .before .print-line .ensures) (l .inv .1 .1 .1 .1 .1)),
+              rw (p .none .ensures) (one-line _ _ _ _ _ (l .out) (l .at) (l .next) (l .count) (l .pending) (l .drill) (l .store) (p .before .before .before .before .before .before .before .loop-test .taken) (p .before .before .before .before .before .if1 .left) room (c .before .before .before .before .before .before .before .begin .result) _ _ _ (e .0 ∙ ap (λ (x : Done). x .turn) (sym d)) (e .1 ∙ ap (λ (x : Done). x .store) (sym d)) (c .before .before .print-line .ensures) (l .inv .1 .1 .1 .1 .1)),
             ),
           ),
         ),
       ),
     )
+
+enum-known-line-2 : tie.Need-enum-known-line-2 Inv-loop μ-loop
+enum-known-line-2 c = search needs
+
+call-requires : tie.Need-call-requires Inv-loop μ-loop
+call-requires c κs = search needs
+
+print-line-requires-2 : tie.Need-print-line-requires-2 Inv-loop μ-loop
+print-line-requires-2 c κs = search needs
+
+loop-less-3 : tie.Need-loop-less-3 Inv-loop μ-loop
+loop-less-3 c = search needs
+
+loop-again-3 : tie.Need-loop-again-3 Inv-loop μ-loop
+unfolding lineDone readDone
+loop-again-3 c =
+    let p = c .before .before .before .before .before .before .before .before .before .before .before .before in
+    let l = p .before .before .before .before .before .before .before .before .loop in
+    let room : l .at + lineRoom ≤ length (l .out) = omega (arith, p .before .before .before .before .if2 .left, l .inv .1 .1 .0) in
+    let line = p .before .line-for .ensures ∙ ap (lineFor (l .drill .n)) (p .before .before .read-pending .ensures) in
+    let e = c .before .before .before .before .before .before .before .call .ensures in
+    let d = ap (λ (x : Line). readDone x (l .drill) (l .store)) (sym line ∙ c .before .before .before .before .before .before .before .before .before .before .line2 .given .1) in
+    let w = line-within (l .out) (l .at) (l .count + 1) (c .before .before .before .before .before .before .before .call .result .reply) _ _ (l .inv .1 .1 .0) (c .before .before .print-line2 .ensures) in (
+      omega (arith, p .before .before .before .if3 .left, l .inv .0),
+      (
+        omega arith,
+        (
+          w .0,
+          (
+            search needs,
+            (
+              w .1 ∙ l .inv .1 .1 .1 .1 .0,
+              rw (p .none .ensures) (one-line _ _ _ _ _ (l .out) (l .at) (l .next) (l .count) (l .pending) (l .drill) (l .store) (p .before .before .before .before .before .before .before .loop-test .taken) (p .before .before .before .before .before .if1 .left) room (c .before .before .before .before .before .before .before .call .result) _ _ _ (e .0 ∙ ap (λ (x : Done). x .turn) (sym d)) (e .1 ∙ ap (λ (x : Done). x .store) (sym d)) (c .before .before .print-line2 .ensures) (l .inv .1 .1 .1 .1 .1)),
+            ),
+          ),
+        ),
+      ),
+    )
+
+enum-told : tie.Need-enum-told Inv-loop μ-loop
+enum-told c = search needs
+
+print-line-requires-3 : tie.Need-print-line-requires-3 Inv-loop μ-loop
+print-line-requires-3 c κs = search needs
+
+loop-less-4 : tie.Need-loop-less-4 Inv-loop μ-loop
+loop-less-4 c = search needs
+
+loop-again-4 : tie.Need-loop-again-4 Inv-loop μ-loop
+unfolding lineDone readDone unread
+loop-again-4 c =
+    let p = c .before .before .before .before .before .before in
+    let l = p .before .before .before .before .before .before .before .before .loop in
+    let room : l .at + lineRoom ≤ length (l .out) = omega (arith, p .before .before .before .before .if2 .left, l .inv .1 .1 .0) in
+    let line = p .before .line-for .ensures ∙ ap (lineFor (l .drill .n)) (p .before .before .read-pending .ensures) in
+    let d = ap (λ (x : Line). readDone x (l .drill) (l .store)) (sym line ∙ c .before .before .before .before .enum-told .given .1) in
+    let turn : Turn = record { reply = reply.Unread; drill = l .drill } in
+    let w = line-within (l .out) (l .at) (l .count + 1) (turn .reply) _ _ (l .inv .1 .1 .0) (c .before .before .print-line3 .ensures) in (
+      omega (arith, p .before .before .before .if3 .left, l .inv .0),
+      (
+        omega arith,
+        (
+          w .0,
+          (
+            search needs,
+            (
+              w .1 ∙ l .inv .1 .1 .1 .1 .0,
+              rw (p .none .ensures) (one-line _ _ _ _ _ (l .out) (l .at) (l .next) (l .count) (l .pending) (l .drill) (l .store) (p .before .before .before .before .before .before .before .loop-test .taken) (p .before .before .before .before .before .if1 .left) room (turn) _ _ _ (ap (λ (x : Done). x .turn) (sym d)) (ap (λ (x : Done). x .store) (sym d)) (c .before .before .print-line3 .ensures) (l .inv .1 .1 .1 .1 .1)),
+            ),
+          ),
+        ),
+      ),
+    )
+
+fed-requires : tie.Need-fed-requires Inv-loop μ-loop
+fed-requires c κs = search needs
 
 same-length : tie.Need-same-length Inv-loop μ-loop
 same-length c = search needs
@@ -107,27 +197,20 @@ same-length-2 c = search needs
 
 returns : tie.Need-returns Inv-loop μ-loop
 unfolding progressOutput
-returns c = let l = c .before .loop in record { output = λ rest. l .inv .1 .1 .1 .1 .1 rest; within = (l .inv .1 .0, l .inv .1 .1 .0); ended = inl (omega (arith, c .loop-test .left, l .inv .1 .0)) }
-
-same-length-3 : tie.Need-same-length-3 Inv-loop μ-loop
-same-length-3 c = search needs
-
-same-length-4 : tie.Need-same-length-4 Inv-loop μ-loop
-same-length-4 c = search needs
-
-returns-2 : tie.Need-returns-2 Inv-loop μ-loop
-unfolding progressOutput
-returns-2 c = let l = c .before .before .before .before .loop in record { output = λ rest. l .inv .1 .1 .1 .1 .1 rest; within = (l .inv .1 .0, l .inv .1 .1 .0); ended = inr (inl (omega (arith, c .if2 .taken, l .inv .1 .1 .0))) }
-
-same-length-5 : tie.Need-same-length-5 Inv-loop μ-loop
-same-length-5 c = search needs
-
-same-length-6 : tie.Need-same-length-6 Inv-loop μ-loop
-same-length-6 c = search needs
-
-returns-3 : tie.Need-returns-3 Inv-loop μ-loop
-unfolding progressOutput
-returns-3 c = let l = c .before .before .before .before .before .loop in record { output = λ rest. l .inv .1 .1 .1 .1 .1 rest; within = (l .inv .1 .0, l .inv .1 .1 .0); ended = inr (inr (omega (arith, c .if3 .taken))) }
+returns c =
+    let l = c .before .before .loop in
+    rw (c .fed .ensures)
+    (record {
+      output = λ rest. l .inv .1 .1 .1 .1 .1 rest;
+      within = (l .inv .1 .0, l .inv .1 .1 .0);
+      ended =
+          ⊎-elim
+          (λ w. inl (omega (arith, w .left, l .inv .1 .0)))
+          (⊎-elim
+          (λ w. inr (inl (omega (arith, w .3 .taken, l .inv .1 .1 .0))))
+          (λ w. inr (inr (omega (arith, w .4 .taken)))))
+          (c .before .loop-test .came);
+    })
 
 pub feed-spec : {M : Type 1} → statement M
 feed-spec =
@@ -143,19 +226,25 @@ feed-spec =
     loop-again
     sub-if2
     read-pending-requires
-    take-line-requires
+    line-for-requires
     none-requires
     add-count
-    print-line-requires
     add-next-2
+    enum-known-line
+    begin-requires
+    print-line-requires
     loop-less-2
     loop-again-2
+    enum-known-line-2
+    call-requires
+    print-line-requires-2
+    loop-less-3
+    loop-again-3
+    enum-told
+    print-line-requires-3
+    loop-less-4
+    loop-again-4
+    fed-requires
     same-length
     same-length-2
-    returns
-    same-length-3
-    same-length-4
-    returns-2
-    same-length-5
-    same-length-6
-    returns-3)
+    returns)

@@ -1,4 +1,4 @@
--- `place::act_at_place` meets its contract: a walk of its MIR, by hand. The table is lent as a `&` to `node_or` and comes back; then the store goes to `act` and the table to `replace_node` for good.
+-- `place::act_at_place` meets its contract: a walk of its MIR, by hand. The table is lent as a `&` to `node_at` and comes back; then the store goes to `act` and the table to `replace_node` for good.
 -- All that the proof knows of the callees is that they meet their contracts.
 -- Assumes nothing.
 use mathlib.Core.Path.{_≡_, refl, _∙_, ap}
@@ -62,14 +62,10 @@ use Rattle.outcome.proofs.Seen as S
 use Rattle.outcome.proofs.Seen.Laws as S′
 use Rattle.outcome.proofs.Acted as O
 use Rattle.outcome.proofs.Acted.Laws as O′
-use Rattle.looking.proofs.no_node as none
-use Rattle.looking.proofs.no_node.Symbol as none-def
-use Rattle.looking.proofs.no_node.Symbol.{name as #none}
-use Rattle.looking.proofs.no_node.Met as none-thm
-use Rattle.table.proofs.node_or as node-or
-use Rattle.table.proofs.node_or.Symbol as node-or-def
-use Rattle.table.proofs.node_or.Symbol.{name as #node-or}
-use Rattle.table.proofs.node_or.Met as node-or-thm
+use Rattle.table.proofs.node_at as node-at
+use Rattle.table.proofs.node_at.Symbol as node-at-def
+use Rattle.table.proofs.node_at.Symbol.{name as #node-at}
+use Rattle.table.proofs.node_at.Met as node-at-thm
 use Rattle.act.proofs.act as acts
 use Rattle.act.proofs.act.Symbol as act-def
 use Rattle.act.proofs.act.Symbol.{name as #act}
@@ -91,11 +87,8 @@ place-fits r vs is = LL.owed S.the-type S′.the-laws r vs is .1 .1 .1 .0 .1
 
 module _ {M : Type 1} (𝓤 : URA M) (H : Heap 𝓤) (A : Atoms 𝓤) (mem : Memory → SProp 𝓤) (run : Routine → Fun 𝓤) where
   -- the contracts that the proof cites
-  abbrev None : Contract 𝓤
-  None = tripleOf 𝓤 H A none.signature (none.spec 𝓤 H A mem run)
-
-  abbrev NodeOr : Contract 𝓤
-  NodeOr = tripleOf 𝓤 H A node-or.signature (node-or.spec 𝓤 H A mem run)
+  abbrev NodeAt : Contract 𝓤
+  NodeAt = tripleOf 𝓤 H A node-at.signature (node-at.spec 𝓤 H A mem run)
 
   abbrev Act : Contract 𝓤
   Act = tripleOf 𝓤 H A acts.signature (acts.spec 𝓤 H A mem run)
@@ -104,11 +97,8 @@ module _ {M : Type 1} (𝓤 : URA M) (H : Heap 𝓤) (A : Atoms 𝓤) (mem : Mem
   Replace = tripleOf 𝓤 H A replace.signature (replace.spec 𝓤 H A mem run)
 
   -- of the `ensured` of a callee that changes nothing, the clause alone: it has no last value
-  none-of : (r : Node) → ent 𝓤 (ensured 𝓤 H A none.ended (none.clauses 𝓤 H A mem run) tt tt tt r) (fact 𝓤 (r ≡ noNode))
-  none-of r = exE 𝓤 _ (λ ws. snd∗ 𝓤 (sem 𝓤 H A (lasts none.ended tt tt ws)) (fact 𝓤 (r ≡ noNode)))
-
-  or-of : (κ : Lft) (x : RefT (List Node)) (i : ℕ) (d r : Node) → ent 𝓤 (ensured 𝓤 H A node-or.ended (node-or.clauses 𝓤 H A mem run) (κ, tt) (x, (i, (d, tt))) tt r) (fact 𝓤 (r ≡ getD (x .now) i d))
-  or-of κ x i d r = exE 𝓤 _ (λ ws. snd∗ 𝓤 (sem 𝓤 H A (lasts node-or.ended (κ, tt) (x, (i, (d, tt))) ws)) (fact 𝓤 (r ≡ getD (x .now) i d)))
+  at-of : (κ : Lft) (x : RefT (List Node)) (i : ℕ) (r : Node) → ent 𝓤 (ensured 𝓤 H A node-at.ended (node-at.clauses 𝓤 H A mem run) (κ, tt) (x, (i, tt)) tt r) (fact 𝓤 (r ≡ getD (x .now) i noNode))
+  at-of κ x i r = exE 𝓤 _ (λ ws. snd∗ 𝓤 (sem 𝓤 H A (lasts node-at.ended (κ, tt) (x, (i, tt)) ws)) (fact 𝓤 (r ≡ getD (x .now) i noNode)))
 
 module _ {M : Type 1} (𝓤 : URA M) (H : Heap 𝓤) (A : Atoms 𝓤) (W : Given 𝓤 H A) (mem : Memory → SProp 𝓤) (run : Routine → Fun 𝓤) (κ κ′ : Lft) (q q′ : Share) (b o : ℕ) (γ : GName) (ys : List Node) (b′ o′ : ℕ) (γ′ : GName) (st : List ℕ) (t : Bool) (seen : Seen) (e : Event) where
   -- the table under the name δ, the store, and the machine values
@@ -149,20 +139,14 @@ module _ {M : Type 1} (𝓤 : URA M) (H : Heap 𝓤) (A : Atoms 𝓤) (W : Given
   Post = walkOf 𝓤 H A place.ended stayed (place.clauses 𝓤 H A mem run) .post (((κ, (κ′, tt)), (q, (q′, tt)), tt, a, at), tt)
 
   -- what each callee's triple binds outside, and that the caller has what it asks
-  abbrev to-none : None 𝓤 H A mem run .Ghost
-  to-none = ((tt, tt, tt, tt, tt), tt)
+  abbrev to-at : ℕ → GName → NodeAt 𝓤 H A mem run .Ghost
+  to-at ν δ = (((ν ∷ [], tt), (fullShare, tt), tt, (x δ, (seen .place, tt)), (s ∷ [], (vint w64 (seen .place) ∷ [], tt))), tt)
 
-  goes-none-call : ent 𝓤 (sem 𝓤 H A ftrue) (None 𝓤 H A mem run .pre to-none)
-  goes-none-call = qed W (‵ ftrue ∷ []) ∵ suffices ! (onEntry 𝓤 H A none.signature tt tt tt tt) (∗emp 𝓤 _) $ nothing ! $ done !
-
-  abbrev to-or : ℕ → GName → Node → Val → NodeOr 𝓤 H A mem run .Ghost
-  to-or ν δ d w = (((ν ∷ [], tt), (fullShare, tt), tt, (x δ, (seen .place, (d, tt))), (s ∷ [], (vint w64 (seen .place) ∷ [], (w ∷ [], tt)))), tt)
-
-  goes-or : (ν : ℕ) (δ : GName) (d : Node) (w : Val) → seen .place < 2 ^ 64 → ent 𝓤 (sep 𝓤 (A .lft (ν ∷ []) fullShare) (sep 𝓤 (sem 𝓤 H A (ShrSlice (named 0) (ν ∷ []) T.the-row .own (x δ) (s ∷ []))) (sem 𝓤 H A (T.the-row .own d (w ∷ []))))) (NodeOr 𝓤 H A mem run .pre (to-or ν δ d w))
-  goes-or ν δ d w gi =
-      qed W (‵ (flft (ν ∷ []) fullShare) ∷ ‵ (ShrSlice (named 0) (ν ∷ []) T.the-row .own (x δ) (s ∷ [])) ∷ ‵ (T.the-row .own d (w ∷ [])) ∷ []) ∵
-      suffices ! (onEntry 𝓤 H A node-or.signature (ν ∷ [], tt) (fullShare, tt) (x δ, (seen .place, (d, tt))) (s ∷ [], (vint w64 (seen .place) ∷ [], (w ∷ [], tt)))) (∗emp 𝓤 _) $ nothing ! $ move ! (1 ∷ 0 ∷ []) $ join ! $ frame ! $
-      nothing ! $ move ! (2 ∷ 0 ∷ []) $ fjoin ! $ owned ! usize (Is usize) (uint-makes 𝓤 H A W w64) (seen .place) _ (refl, gi) $ fjoin ! $ move ! (1 ∷ 0 ∷ []) $ fjoin ! $ done !
+  goes-at : (ν : ℕ) (δ : GName) → seen .place < 2 ^ 64 → ent 𝓤 (sep 𝓤 (A .lft (ν ∷ []) fullShare) (sem 𝓤 H A (ShrSlice (named 0) (ν ∷ []) T.the-row .own (x δ) (s ∷ [])))) (NodeAt 𝓤 H A mem run .pre (to-at ν δ))
+  goes-at ν δ gi =
+      qed W (‵ (flft (ν ∷ []) fullShare) ∷ ‵ (ShrSlice (named 0) (ν ∷ []) T.the-row .own (x δ) (s ∷ [])) ∷ []) ∵
+      suffices ! (onEntry 𝓤 H A node-at.signature (ν ∷ [], tt) (fullShare, tt) (x δ, (seen .place, tt)) (s ∷ [], (vint w64 (seen .place) ∷ [], tt))) (∗emp 𝓤 _) $ nothing ! $ move ! (1 ∷ 0 ∷ []) $ join ! $ frame ! $
+      nothing ! $ owned ! usize (Is usize) (uint-makes 𝓤 H A W w64) (seen .place) _ (refl, gi) $ fjoin ! $ move ! (1 ∷ 0 ∷ []) $ fjoin ! $ done !
 
   abbrev to-act : Node → Val → Act 𝓤 H A mem run .Ghost
   to-act v w = (((κ′, tt), (q′, tt), tt, (x′, (v, (t, (seen, (e, tt))))), (s′ ∷ [], (w ∷ [], (vbool t ∷ [], (sv ∷ [], (ev ∷ [], tt)))))), tt)
@@ -198,12 +182,11 @@ module _ {M : Type 1} (𝓤 : URA M) (H : Heap 𝓤) (A : Atoms 𝓤) (W : Given
   abbrev Says : Answer → List Node → List ℕ → Type 0
   Says r l m = (r ≡ atPlace e t seen ys st .answer) × ((l ≡ atPlace e t seen ys st .table) × (m ≡ atPlace e t seen ys st .store))
 
-  answers : (r₀ r₁ : Node) (r₂ : Acted) (l : List Node) (m : List ℕ) → r₀ ≡ noNode → r₁ ≡ getD ys (seen .place) r₀ → Acts r₁ r₂ m → l ≡ set ys (seen .place) (r₂ .node) → Says (r₂ .answer) l m
+  answers : (r₁ : Node) (r₂ : Acted) (l : List Node) (m : List ℕ) → r₁ ≡ getD ys (seen .place) noNode → Acts r₁ r₂ m → l ≡ set ys (seen .place) (r₂ .node) → Says (r₂ .answer) l m
   unfolding atPlace nodeAt
-  answers r₀ r₁ r₂ l m e₀ e₁ e₂ e₃ =
-      let n : r₁ ≡ nodeAt ys (seen .place) = e₁ ∙ ap (λ (d : Node). getD ys (seen .place) d) e₀ in
-      let out : r₂ ≡ handedBack (acted e t seen (nodeAt ys (seen .place)) st) = e₂ .0 ∙ ap (λ (d : Node). handedBack (acted e t seen d st)) n in
-      (ap (λ (r : Acted). r .answer) out, (e₃ ∙ ap (λ (r : Acted). set ys (seen .place) (r .node)) out, e₂ .1 ∙ ap (λ (d : Node). acted e t seen d st .store) n))
+  answers r₁ r₂ l m e₁ e₂ e₃ =
+      let out : r₂ ≡ handedBack (acted e t seen (nodeAt ys (seen .place)) st) = e₂ .0 ∙ ap (λ (d : Node). handedBack (acted e t seen d st)) e₁ in
+      (ap (λ (r : Acted). r .answer) out, (e₃ ∙ ap (λ (r : Acted). set ys (seen .place) (r .node)) out, e₂ .1 ∙ ap (λ (d : Node). acted e t seen d st .store) e₁))
 
   exits : (r : Answer) (l : List Node) (m : List ℕ) → Says r l m → length l ≡ length ys → length m ≡ length st → Is An.the-row r (av r ∷ []) → Is S.the-row seen (sv ∷ []) → Is K.the-row e (ev ∷ [])
       → ent 𝓤 (⋆ 𝓤 H A (‵ (flft κ q) ∷ ‵ (flft κ′ q′) ∷ ‵ (finally T.the-row γ l) ∷ ‵ (finally u8 γ′ m) ∷ [])) (Post (av r))
@@ -214,58 +197,54 @@ module _ {M : Type 1} (𝓤 : URA M) (H : Heap 𝓤) (A : Atoms 𝓤) (W : Given
       nothing ! $ owned ! K.the-row (Is K.the-row) (EL.makes K.the-type K′.the-plain 𝓤 H A) e _ ge $ fjoin ! $ owned ! S.the-row (Is S.the-row) (LL.makes S.the-type S′.the-plain 𝓤 H A) seen _ gs $ fjoin ! $ owned ! bool (Is bool) (bool-makes 𝓤 H A W) t _ refl $ fjoin ! $ move ! (2 ∷ 0 ∷ []) $ fjoin ! $ move ! (1 ∷ 0 ∷ []) $ fjoin ! $
       owned ! An.the-row (Is An.the-row) (EL.makes An.the-type An′.the-plain 𝓤 H A) r _ gr $ move ! (1 ∷ 0 ∷ []) $ done !
 
-  module _ (C : Calls 𝓤 H) (Λ : Loops 𝓤 H) (fm : FmC 𝓤 H (W .laws) C) (known-none : Triple 𝓤 (C #none) (None 𝓤 H A mem run)) (known-or : Triple 𝓤 (C #node-or) (NodeOr 𝓤 H A mem run)) (known-act : Triple 𝓤 (C #act) (Act 𝓤 H A mem run)) (known-replace : Triple 𝓤 (C #replace) (Replace 𝓤 H A mem run)) where
+  module _ (C : Calls 𝓤 H) (Λ : Loops 𝓤 H) (fm : FmC 𝓤 H (W .laws) C) (known-at : Triple 𝓤 (C #node-at) (NodeAt 𝓤 H A mem run)) (known-act : Triple 𝓤 (C #act) (Act 𝓤 H A mem run)) (known-replace : Triple 𝓤 (C #replace) (Replace 𝓤 H A mem run)) where
     walk : Room T.the-row (length ys) → Room u8 (length st) → seen .place < 2 ^ 64 → Is S.the-row seen (sv ∷ []) → Is K.the-row e (ev ∷ []) → ent 𝓤 (onEntry 𝓤 H A place.signature (κ, (κ′, tt)) (q, (q′, tt)) a at) (WpFn 𝓤 H C Λ code.function (s ∷ s′ ∷ vbool t ∷ sv ∷ ev ∷ []) Post)
     walk room room′ gi gs ge =
         qed W ((‵ (flft κ q) ⊛ ‵ (flft κ′ q′) ⊛ ‵ ftrue) ∷ ‵ (owns (MutSlice (named 0) κ T.the-row ∷ MutSlice (named 1) κ′ u8 ∷ bool ∷ S.the-row ∷ K.the-row ∷ []) a at) ∷ []) ∵ enter ! C Λ code.function (s ∷ s′ ∷ vbool t ∷ sv ∷ ev ∷ []) _ $
-        alloc1 ! (λ l₀. alloc1 ! (λ l₁. alloc1 ! (λ l₂. alloc1 ! (λ l₃. alloc1 ! (λ l₄. alloc1 ! (λ l₅. alloc1 ! (λ l₆. alloc1 ! (λ l₇. alloc1 ! (λ l₈. alloc1 ! (λ l₉. alloc1 ! (λ l₁₀. alloc1 ! (λ l₁₁. alloc1 ! (λ l₁₂. alloc1 ! (λ l₁₃. alloc1 ! (λ l₁₄. alloc1 ! (λ l₁₅. alloc0 ! $ params1 ! $
-        pass1 ! (init ! 28 refl (tt, (tt, (record { fits = room .0 }, tt)))) $ pass1 ! (init ! 26 refl (tt, (tt, (record { fits = room′ .0 }, tt)))) $ pass1 ! (init ! 24 refl (tt, tt)) $ pass1 ! (init ! 22 refl (LL.lawful S.the-type S′.the-laws 𝓤 H A W .typed seen _ gs .0)) $ pass1 ! (init ! 20 refl (EL.lawful K.the-type K′.the-laws 𝓤 H A W tt .typed e _ ge .0)) $ pass0 ! $
-        move ! (32 ∷ []) $ split ! $ move ! (1 ∷ []) $ split ! $ move ! (35 ∷ []) $ fsplit ! $ move ! (1 ∷ []) $ fsplit ! $
-        assigns ! (addr ! (from ! (fld ! refl (hop ! (look-in ! 34 (sub ! 0 refl (whole !))) (stop !))))) (from ! (stop !)) (init ! 20 refl (tt, tt)) $
-        assigns ! (agg ! (and-then ! (load ! (from ! (stop !)) (look ! 20 refl)) (and-then ! (load ! (from ! (fld ! refl (stop !))) (look-in ! 34 (sub ! 1 refl (whole !)))) (no-more !)))) (from ! (stop !)) (init ! 18 refl (tt, (tt, (record { fits = room .0 }, tt)))) $
-        -- `no_node`
-        nothing ! $ use1 W (raw (None 𝓤 H A mem run .pre to-none)) goes-none-call $ calls-at ! fm (None 𝓤 H A mem run) known-none to-none (no-more !) (λ w₀.
-        use1 W (later (some (λ (r : Node). (‵ ftrue ⊛ ‵ (T.the-row .own r (w₀ ∷ []))) ⊛ raw (ensured 𝓤 H A none.ended (none.clauses 𝓤 H A mem run) tt tt tt r)))) (id⊢ 𝓤 _) $ await ! tt $ pick ! (λ r₀. split ! $ move ! (1 ∷ []) $
-        use1 W (raw (fact 𝓤 (r₀ ≡ noNode))) (none-of 𝓤 H A mem run r₀) $ heard ! (r₀ ≡ noNode) (λ e₀. split ! $ move ! (1 ∷ []) $ peeks ! T.the-row (Is T.the-row) (shows 𝓤 H A T.the-row) r₀ (w₀ ∷ []) (λ is₀. land ! (from ! (stop !)) (init ! 18 refl (LL.lawful T.the-type T′.the-laws 𝓤 H A W .typed r₀ _ is₀ .0)) $
-        -- the table is lent as a `&` for a lifetime ν of the call of `node_or`
-        lft-new ! tt (λ ν. move ! (5 ∷ 8 ∷ []) $ use2 W (later (some (λ (δ : GName). ‵ (ShrSlice (named 0) (ν ∷ []) T.the-row .own (x δ) (s ∷ [])) ⊛ ‵ (LentShared T.the-row κ (ν ∷ []) q γ b o ys)))) (lends-shared T.the-row κ (ν ∷ []) q γ b o 𝓤 H A W (named 0) (named 0) ys) $ await ! tt $ pick ! (λ δ. split ! $
-        move ! (2 ∷ 0 ∷ 3 ∷ []) $ use3 W (raw (NodeOr 𝓤 H A mem run .pre (to-or ν δ r₀ w₀))) (goes-or ν δ r₀ w₀ gi) $ calls-at ! fm (NodeOr 𝓤 H A mem run) known-or (to-or ν δ r₀ w₀) (and-then ! (load ! (from ! (stop !)) (look ! 19 refl)) (and-then ! (load ! (from ! (fld ! {τ = tyInt w64} {d = placeAt} refl (stop !))) (look-in ! 29 (sub ! 3 {τ = tyInt w64} {d = placeAt} refl (whole !)))) (and-then ! (load ! (from ! (stop !)) (look ! 17 refl)) (no-more !)))) (λ w₁.
-        use1 W (later (some (λ (r : Node). ((‵ (flft (ν ∷ []) fullShare) ⊛ ‵ ftrue) ⊛ ‵ (T.the-row .own r (w₁ ∷ []))) ⊛ raw (ensured 𝓤 H A node-or.ended (node-or.clauses 𝓤 H A mem run) (ν ∷ [], tt) (x δ, (seen .place, (r₀, tt))) tt r)))) (id⊢ 𝓤 _) $ await ! tt $ pick ! (λ r₁. split ! $ move ! (1 ∷ []) $
-        use1 W (raw (fact 𝓤 (r₁ ≡ getD ys (seen .place) r₀))) (or-of 𝓤 H A mem run (ν ∷ []) (x δ) (seen .place) r₀ r₁) $ heard ! (r₁ ≡ getD ys (seen .place) r₀) (λ e₁. split ! $ split ! $ move ! (2 ∷ []) $ peeks ! T.the-row (Is T.the-row) (shows 𝓤 H A T.the-row) r₁ (w₁ ∷ []) (λ is₁. land ! (from ! (stop !)) (init ! 27 refl (LL.lawful T.the-type T′.the-laws 𝓤 H A W .typed r₁ _ is₁ .0)) $
+        alloc1 ! (λ l₀. alloc1 ! (λ l₁. alloc1 ! (λ l₂. alloc1 ! (λ l₃. alloc1 ! (λ l₄. alloc1 ! (λ l₅. alloc1 ! (λ l₆. alloc1 ! (λ l₇. alloc1 ! (λ l₈. alloc1 ! (λ l₉. alloc1 ! (λ l₁₀. alloc1 ! (λ l₁₁. alloc1 ! (λ l₁₂. alloc1 ! (λ l₁₃. alloc1 ! (λ l₁₄. alloc0 ! $ params1 ! $
+        pass1 ! (init ! 26 refl (tt, (tt, (record { fits = room .0 }, tt)))) $ pass1 ! (init ! 24 refl (tt, (tt, (record { fits = room′ .0 }, tt)))) $ pass1 ! (init ! 22 refl (tt, tt)) $ pass1 ! (init ! 20 refl (LL.lawful S.the-type S′.the-laws 𝓤 H A W .typed seen _ gs .0)) $ pass1 ! (init ! 18 refl (EL.lawful K.the-type K′.the-laws 𝓤 H A W tt .typed e _ ge .0)) $ pass0 ! $
+        move ! (30 ∷ []) $ split ! $ move ! (1 ∷ []) $ split ! $ move ! (33 ∷ []) $ fsplit ! $ move ! (1 ∷ []) $ fsplit ! $
+        assigns ! (addr ! (from ! (fld ! refl (hop ! (look-in ! 32 (sub ! 0 refl (whole !))) (stop !))))) (from ! (stop !)) (init ! 18 refl (tt, tt)) $
+        assigns ! (agg ! (and-then ! (load ! (from ! (stop !)) (look ! 18 refl)) (and-then ! (load ! (from ! (fld ! refl (stop !))) (look-in ! 32 (sub ! 1 refl (whole !)))) (no-more !)))) (from ! (stop !)) (init ! 16 refl (tt, (tt, (record { fits = room .0 }, tt)))) $
+        -- the table is lent as a `&` for a lifetime ν of the call of `node_at`
+        lft-new ! tt (λ ν. move ! (3 ∷ 6 ∷ []) $ use2 W (later (some (λ (δ : GName). ‵ (ShrSlice (named 0) (ν ∷ []) T.the-row .own (x δ) (s ∷ [])) ⊛ ‵ (LentShared T.the-row κ (ν ∷ []) q γ b o ys)))) (lends-shared T.the-row κ (ν ∷ []) q γ b o 𝓤 H A W (named 0) (named 0) ys) $ await ! tt $ pick ! (λ δ. split ! $
+        move ! (2 ∷ 0 ∷ []) $ use2 W (raw (NodeAt 𝓤 H A mem run .pre (to-at ν δ))) (goes-at ν δ gi) $ calls-at ! fm (NodeAt 𝓤 H A mem run) known-at (to-at ν δ) (and-then ! (load ! (from ! (stop !)) (look ! 16 refl)) (and-then ! (load ! (from ! (fld ! {τ = tyInt w64} {d = placeAt} refl (stop !))) (look-in ! 26 (sub ! 3 {τ = tyInt w64} {d = placeAt} refl (whole !)))) (no-more !))) (λ w₁.
+        use1 W (later (some (λ (r : Node). ((‵ (flft (ν ∷ []) fullShare) ⊛ ‵ ftrue) ⊛ ‵ (T.the-row .own r (w₁ ∷ []))) ⊛ raw (ensured 𝓤 H A node-at.ended (node-at.clauses 𝓤 H A mem run) (ν ∷ [], tt) (x δ, (seen .place, tt)) tt r)))) (id⊢ 𝓤 _) $ await ! tt $ pick ! (λ r₁. split ! $ move ! (1 ∷ []) $
+        use1 W (raw (fact 𝓤 (r₁ ≡ getD ys (seen .place) noNode))) (at-of 𝓤 H A mem run (ν ∷ []) (x δ) (seen .place) r₁) $ heard ! (r₁ ≡ getD ys (seen .place) noNode) (λ e₁. split ! $ split ! $ move ! (2 ∷ []) $ peeks ! T.the-row (Is T.the-row) (shows 𝓤 H A T.the-row) r₁ (w₁ ∷ []) (λ is₁. land ! (from ! (stop !)) (init ! 24 refl (LL.lawful T.the-type T′.the-laws 𝓤 H A W .typed r₁ _ is₁ .0)) $
         move ! (1 ∷ []) $ lft-end ! tt $ move ! (0 ∷ 3 ∷ []) $ use2 W (later (‵ (MutSlice (named 0) κ T.the-row .own (x γ) (s ∷ [])) ⊛ ‵ (flft κ q))) (shared-back T.the-row κ (ν ∷ []) q γ b o 𝓤 H A W (named 0) (named 0) ys room) $ await ! tt $ split ! $
         -- `act`, which is given the store for good
-        assigns ! (addr ! (from ! (fld ! refl (hop ! (look-in ! 35 (sub ! 0 refl (whole !))) (stop !))))) (from ! (stop !)) (init ! 17 refl (tt, tt)) $
-        assigns ! (agg ! (and-then ! (load ! (from ! (stop !)) (look ! 17 refl)) (and-then ! (load ! (from ! (fld ! refl (stop !))) (look-in ! 35 (sub ! 1 refl (whole !)))) (no-more !)))) (from ! (stop !)) (init ! 15 refl (tt, (tt, (record { fits = room′ .0 }, tt)))) $
-        move ! (7 ∷ 2 ∷ 5 ∷ []) $ use3 W (raw (Act 𝓤 H A mem run .pre (to-act r₁ w₁))) (goes-act r₁ w₁ gs ge) $ calls-at ! fm (Act 𝓤 H A mem run) known-act (to-act r₁ w₁) (and-then ! (load ! (from ! (stop !)) (look ! 13 refl)) (and-then ! (load ! (from ! (stop !)) (look ! 25 refl)) (and-then ! (load ! (from ! (stop !)) (look ! 31 refl)) (and-then ! (load ! (from ! (stop !)) (look ! 29 refl)) (and-then ! (load ! (from ! (stop !)) (look ! 27 refl)) (no-more !)))))) (λ w₂.
+        assigns ! (addr ! (from ! (fld ! refl (hop ! (look-in ! 32 (sub ! 0 refl (whole !))) (stop !))))) (from ! (stop !)) (init ! 16 refl (tt, tt)) $
+        assigns ! (agg ! (and-then ! (load ! (from ! (stop !)) (look ! 16 refl)) (and-then ! (load ! (from ! (fld ! refl (stop !))) (look-in ! 32 (sub ! 1 refl (whole !)))) (no-more !)))) (from ! (stop !)) (init ! 14 refl (tt, (tt, (record { fits = room′ .0 }, tt)))) $
+        move ! (6 ∷ 2 ∷ 4 ∷ []) $ use3 W (raw (Act 𝓤 H A mem run .pre (to-act r₁ w₁))) (goes-act r₁ w₁ gs ge) $ calls-at ! fm (Act 𝓤 H A mem run) known-act (to-act r₁ w₁) (and-then ! (load ! (from ! (stop !)) (look ! 12 refl)) (and-then ! (load ! (from ! (stop !)) (look ! 22 refl)) (and-then ! (load ! (from ! (stop !)) (look ! 28 refl)) (and-then ! (load ! (from ! (stop !)) (look ! 26 refl)) (and-then ! (load ! (from ! (stop !)) (look ! 24 refl)) (no-more !)))))) (λ w₂.
         use1 W (later (some (λ (r : Acted). ((‵ (flft κ′ q′) ⊛ ‵ ftrue) ⊛ ‵ (O.the-row .own r (w₂ ∷ []))) ⊛ raw (ensured 𝓤 H A acts.ended (acts.clauses 𝓤 H A mem run) (κ′, tt) (x′, (r₁, (t, (seen, (e, tt))))) tt r)))) (id⊢ 𝓤 _) $ await ! tt $ pick ! (λ r₂. split ! $ move ! (1 ∷ []) $
         use1 W (some (λ (zs : List ℕ × (Unit {0} × (Unit {0} × (Unit {0} × (Unit {0} × Unit {0}))))). ‵ (lasts acts.ended (κ′, tt) (x′, (r₁, (t, (seen, (e, tt))))) zs) ⊛ raw (fact 𝓤 (Acts r₁ r₂ (zs .0))))) (id⊢ 𝓤 _) $ pick ! (λ zs₂. split ! $ move ! (1 ∷ []) $
-        heard ! (Acts r₁ r₂ (zs₂ .0)) (λ e₂. fsplit ! $ fsplit ! $ move ! (1 ∷ []) $ feqL ! (λ same₂. move ! (2 ∷ []) $ split ! $ split ! $ move ! (2 ∷ []) $ peeks ! O.the-row (Is O.the-row) (shows 𝓤 H A O.the-row) r₂ (w₂ ∷ []) (λ is₂. land ! (from ! (stop !)) (init ! 27 refl (LL.lawful O.the-type O′.the-laws 𝓤 H A W .typed r₂ _ is₂ .0)) $
-        rewrite ! 27 (λ (u : Val). ‵ (fat fullShare O′.mir l₇ 0 u)) (ap only (LL.tells O.the-type O′.the-laws r₂ _ is₂)) refl $
+        heard ! (Acts r₁ r₂ (zs₂ .0)) (λ e₂. fsplit ! $ fsplit ! $ move ! (1 ∷ []) $ feqL ! (λ same₂. move ! (2 ∷ []) $ split ! $ split ! $ move ! (2 ∷ []) $ peeks ! O.the-row (Is O.the-row) (shows 𝓤 H A O.the-row) r₂ (w₂ ∷ []) (λ is₂. land ! (from ! (stop !)) (init ! 24 refl (LL.lawful O.the-type O′.the-laws 𝓤 H A W .typed r₂ _ is₂ .0)) $
+        rewrite ! 24 (λ (u : Val). ‵ (fat fullShare O′.mir l₇ 0 u)) (ap only (LL.tells O.the-type O′.the-laws r₂ _ is₂)) refl $
         -- `replace_node`, which is given the table for good
-        assigns ! (addr ! (from ! (fld ! refl (hop ! (look-in ! 39 (sub ! 0 refl (whole !))) (stop !))))) (from ! (stop !)) (init ! 13 refl (tt, tt)) $
-        assigns ! (agg ! (and-then ! (load ! (from ! (stop !)) (look ! 13 refl)) (and-then ! (load ! (from ! (fld ! refl (stop !))) (look-in ! 39 (sub ! 1 refl (whole !)))) (no-more !)))) (from ! (stop !)) (init ! 11 refl (tt, (tt, (record { fits = room .0 }, tt)))) $
-        move ! (6 ∷ 5 ∷ []) $ use2 W (raw (Replace 𝓤 H A mem run .pre (to-replace r₂))) (goes-replace r₂ gi (node-is r₂ _ is₂)) $ calls-at ! fm (Replace 𝓤 H A mem run) known-replace (to-replace r₂) (and-then ! (load ! (from ! (stop !)) (look ! 10 refl)) (and-then ! (load ! (from ! (fld ! {τ = tyInt w64} {d = placeAt} refl (stop !))) (look-in ! 32 (sub ! 3 {τ = tyInt w64} {d = placeAt} refl (whole !)))) (and-then ! (load ! (from ! (fld ! {τ = T′.mir} {d = afterAnswer} refl (stop !))) (look-in ! 26 (sub ! 1 {τ = T′.mir} {d = afterAnswer} refl (whole !)))) (no-more !)))) (λ w₃.
+        assigns ! (addr ! (from ! (fld ! refl (hop ! (look-in ! 36 (sub ! 0 refl (whole !))) (stop !))))) (from ! (stop !)) (init ! 12 refl (tt, tt)) $
+        assigns ! (agg ! (and-then ! (load ! (from ! (stop !)) (look ! 12 refl)) (and-then ! (load ! (from ! (fld ! refl (stop !))) (look-in ! 36 (sub ! 1 refl (whole !)))) (no-more !)))) (from ! (stop !)) (init ! 10 refl (tt, (tt, (record { fits = room .0 }, tt)))) $
+        move ! (6 ∷ 5 ∷ []) $ use2 W (raw (Replace 𝓤 H A mem run .pre (to-replace r₂))) (goes-replace r₂ gi (node-is r₂ _ is₂)) $ calls-at ! fm (Replace 𝓤 H A mem run) known-replace (to-replace r₂) (and-then ! (load ! (from ! (stop !)) (look ! 9 refl)) (and-then ! (load ! (from ! (fld ! {τ = tyInt w64} {d = placeAt} refl (stop !))) (look-in ! 29 (sub ! 3 {τ = tyInt w64} {d = placeAt} refl (whole !)))) (and-then ! (load ! (from ! (fld ! {τ = T′.mir} {d = afterAnswer} refl (stop !))) (look-in ! 23 (sub ! 1 {τ = T′.mir} {d = afterAnswer} refl (whole !)))) (no-more !)))) (λ w₃.
         use1 W (later (some (λ (r : Unit {0}). ((‵ (flft κ q) ⊛ ‵ ftrue) ⊛ ‵ (Nothing .own r (w₃ ∷ []))) ⊛ raw (ensured 𝓤 H A replace.ended (replace.clauses 𝓤 H A mem run) (κ, tt) (x γ, (seen .place, (r₂ .node, tt))) tt r)))) (id⊢ 𝓤 _) $ await ! tt $ pick ! (λ r₃. split ! $ move ! (1 ∷ []) $
         use1 W (some (λ (zs : List Node × (Unit {0} × (Unit {0} × Unit {0}))). ‵ (lasts replace.ended (κ, tt) (x γ, (seen .place, (r₂ .node, tt))) zs) ⊛ raw (fact 𝓤 (zs .0 ≡ set ys (seen .place) (r₂ .node))))) (id⊢ 𝓤 _) $ pick ! (λ zs₃. split ! $ move ! (1 ∷ []) $
-        heard ! (zs₃ .0 ≡ set ys (seen .place) (r₂ .node)) (λ e₃. fsplit ! $ fsplit ! $ move ! (1 ∷ []) $ feqL ! (λ same₃. move ! (2 ∷ []) $ split ! $ split ! $ move ! (2 ∷ []) $ peeks ! Nothing (Is Nothing) (shows 𝓤 H A Nothing) r₃ (w₃ ∷ []) (λ is₃. land ! (from ! (stop !)) (init ! 18 refl (nothing-lawful 𝓤 H A W .typed r₃ _ is₃ .0)) $
-        assigns ! (of-opd ! (load ! (from ! (fld ! {τ = An′.mir} {d = 0} refl (stop !))) (look-in ! 30 (sub ! 0 {τ = An′.mir} {d = 0} refl (whole !))))) (from ! (stop !)) (init ! 44 refl (EL.lawful An.the-type An′.the-laws 𝓤 H A W tt .typed (r₂ .answer) _ (answer-is r₂ _ is₂) .0)) $
-        returns ! (look ! 44 refl) $ forget ! 14 refl $ forget ! 16 refl $ forget ! 18 refl $ forget ! 20 refl $ forget ! 22 refl $ forget ! 24 refl $ forget ! 26 refl $ forget ! 28 refl $ forget ! 30 refl $ forget ! 32 refl $ forget ! 34 refl $ forget ! 36 refl $ forget ! 38 refl $ forget ! 40 refl $ forget ! 42 refl $ forget ! 44 refl $
-        move ! (44 ∷ 45 ∷ []) $ free1 ! $ move ! (42 ∷ 43 ∷ []) $ free1 ! $ move ! (40 ∷ 41 ∷ []) $ free1 ! $ move ! (38 ∷ 39 ∷ []) $ free1 ! $ move ! (36 ∷ 37 ∷ []) $ free1 ! $ move ! (34 ∷ 35 ∷ []) $ free1 ! $ move ! (32 ∷ 33 ∷ []) $ free1 ! $ move ! (30 ∷ 31 ∷ []) $ free1 ! $ move ! (28 ∷ 29 ∷ []) $ free1 ! $ move ! (26 ∷ 27 ∷ []) $ free1 ! $ move ! (24 ∷ 25 ∷ []) $ free1 ! $ move ! (22 ∷ 23 ∷ []) $ free1 ! $ move ! (20 ∷ 21 ∷ []) $ free1 ! $ move ! (18 ∷ 19 ∷ []) $ free1 ! $ move ! (16 ∷ 17 ∷ []) $ free1 ! $ move ! (14 ∷ 15 ∷ []) $ free1 ! $ free0 ! $
-        keep ! (1 ∷ 6 ∷ 3 ∷ 8 ∷ []) $ by ! (exits (r₂ .answer) (zs₃ .0) (zs₂ .0) (answers r₀ r₁ r₂ (zs₃ .0) (zs₂ .0) e₀ e₁ e₂ e₃) same₃ same₂ (answer-is r₂ _ is₂) gs ge)))))))))))))))))))))))))))))))))))))))
+        heard ! (zs₃ .0 ≡ set ys (seen .place) (r₂ .node)) (λ e₃. fsplit ! $ fsplit ! $ move ! (1 ∷ []) $ feqL ! (λ same₃. move ! (2 ∷ []) $ split ! $ split ! $ move ! (2 ∷ []) $ peeks ! Nothing (Is Nothing) (shows 𝓤 H A Nothing) r₃ (w₃ ∷ []) (λ is₃. land ! (from ! (stop !)) (init ! 17 refl (nothing-lawful 𝓤 H A W .typed r₃ _ is₃ .0)) $
+        assigns ! (of-opd ! (load ! (from ! (fld ! {τ = An′.mir} {d = 0} refl (stop !))) (look-in ! 27 (sub ! 0 {τ = An′.mir} {d = 0} refl (whole !))))) (from ! (stop !)) (init ! 41 refl (EL.lawful An.the-type An′.the-laws 𝓤 H A W tt .typed (r₂ .answer) _ (answer-is r₂ _ is₂) .0)) $
+        returns ! (look ! 41 refl) $ forget ! 13 refl $ forget ! 15 refl $ forget ! 17 refl $ forget ! 19 refl $ forget ! 21 refl $ forget ! 23 refl $ forget ! 25 refl $ forget ! 27 refl $ forget ! 29 refl $ forget ! 31 refl $ forget ! 33 refl $ forget ! 35 refl $ forget ! 37 refl $ forget ! 39 refl $ forget ! 41 refl $
+        move ! (41 ∷ 42 ∷ []) $ free1 ! $ move ! (39 ∷ 40 ∷ []) $ free1 ! $ move ! (37 ∷ 38 ∷ []) $ free1 ! $ move ! (35 ∷ 36 ∷ []) $ free1 ! $ move ! (33 ∷ 34 ∷ []) $ free1 ! $ move ! (31 ∷ 32 ∷ []) $ free1 ! $ move ! (29 ∷ 30 ∷ []) $ free1 ! $ move ! (27 ∷ 28 ∷ []) $ free1 ! $ move ! (25 ∷ 26 ∷ []) $ free1 ! $ move ! (23 ∷ 24 ∷ []) $ free1 ! $ move ! (21 ∷ 22 ∷ []) $ free1 ! $ move ! (19 ∷ 20 ∷ []) $ free1 ! $ move ! (17 ∷ 18 ∷ []) $ free1 ! $ move ! (15 ∷ 16 ∷ []) $ free1 ! $ move ! (13 ∷ 14 ∷ []) $ free1 ! $ free0 ! $
+        keep ! (1 ∷ 6 ∷ 3 ∷ 8 ∷ []) $ by ! (exits (r₂ .answer) (zs₃ .0) (zs₂ .0) (answers r₁ r₂ (zs₃ .0) (zs₂ .0) e₁ e₂ e₃) same₃ same₂ (answer-is r₂ _ is₂) gs ge))))))))))))))))))))))))))))))))))
 
 module _ {M : Type 1} (𝓤 : URA M) (H : Heap 𝓤) (A : Atoms 𝓤) (W : Given 𝓤 H A) (mem : Memory → SProp 𝓤) (run : Routine → Fun 𝓤) where
-  place-walks : (C : Calls 𝓤 H) (Λ : Loops 𝓤 H) → FmC 𝓤 H (W .laws) C → Triple 𝓤 (C #none) (None 𝓤 H A mem run) → Triple 𝓤 (C #node-or) (NodeOr 𝓤 H A mem run) → Triple 𝓤 (C #act) (Act 𝓤 H A mem run) → Triple 𝓤 (C #replace) (Replace 𝓤 H A mem run)
+  place-walks : (C : Calls 𝓤 H) (Λ : Loops 𝓤 H) → FmC 𝓤 H (W .laws) C → Triple 𝓤 (C #node-at) (NodeAt 𝓤 H A mem run) → Triple 𝓤 (C #act) (Act 𝓤 H A mem run) → Triple 𝓤 (C #replace) (Replace 𝓤 H A mem run)
       → Walks 𝓤 H A place.ended stayed (WpFn 𝓤 H C Λ code.function) (place.clauses 𝓤 H A mem run)
-  place-walks C Λ fm kn ko ka kr = walked 𝓤 H A place.ended stayed (place.clauses 𝓤 H A mem run) (WpFn 𝓤 H C Λ code.function)
+  place-walks C Λ fm ko ka kr = walked 𝓤 H A place.ended stayed (place.clauses 𝓤 H A mem run) (WpFn 𝓤 H C Λ code.function)
       (λ κs. (slice-vals, (slice-vals, (bool-vals, (LL.vals S.the-type S′.the-laws, (EL.vals K.the-type K′.the-laws, tt)))))) (λ κs. (mut-slice-tells (named 0) (κs .0) T.the-row, (mut-slice-tells (named 1) (κs .1 .0) u8, (bool-tells, (LL.tells S.the-type S′.the-laws, (EL.tells K.the-type K′.the-laws, tt))))))
       (λ κs qs bounds a g are. via 𝓤 _ (fst∗ 𝓤 _ (emp 𝓤))
-      (walk 𝓤 H A W mem run (κs .0) (κs .1 .0) (qs .0) (qs .1 .0) (a .0 .ptr .0) (a .0 .ptr .1) (a .0 .name) (a .0 .now) (a .1 .0 .ptr .0) (a .1 .0 .ptr .1) (a .1 .0 .name) (a .1 .0 .now) (a .1 .1 .0) (a .1 .1 .1 .0) (a .1 .1 .1 .1 .0) C Λ fm kn ko ka kr (are .0 .0 .1) (are .1 .0 .0 .1) (place-fits (a .1 .1 .1 .0) _ (are .1 .1 .1 .0)) (are .1 .1 .1 .0) (are .1 .1 .1 .1 .0)))
+      (walk 𝓤 H A W mem run (κs .0) (κs .1 .0) (qs .0) (qs .1 .0) (a .0 .ptr .0) (a .0 .ptr .1) (a .0 .name) (a .0 .now) (a .1 .0 .ptr .0) (a .1 .0 .ptr .1) (a .1 .0 .name) (a .1 .0 .now) (a .1 .1 .0) (a .1 .1 .1 .0) (a .1 .1 .1 .1 .0) C Λ fm ko ka kr (are .0 .0 .1) (are .1 .0 .0 .1) (place-fits (a .1 .1 .1 .0) _ (are .1 .1 .1 .0)) (are .1 .1 .1 .0) (are .1 .1 .1 .1 .0)))
 
-place-meets : {M : Type 1} (𝓤 : URA M) (H : Heap 𝓤) (A : Atoms 𝓤) → Given 𝓤 H A → (mem : Memory → SProp 𝓤) (run : Routine → Fun 𝓤) (𝓣 : Tables 𝓤 H) → Triple 𝓤 (𝓣 .C #none) (None 𝓤 H A mem run) → Triple 𝓤 (𝓣 .C #node-or) (NodeOr 𝓤 H A mem run) → Triple 𝓤 (𝓣 .C #act) (Act 𝓤 H A mem run) → Triple 𝓤 (𝓣 .C #replace) (Replace 𝓤 H A mem run)
+place-meets : {M : Type 1} (𝓤 : URA M) (H : Heap 𝓤) (A : Atoms 𝓤) → Given 𝓤 H A → (mem : Memory → SProp 𝓤) (run : Routine → Fun 𝓤) (𝓣 : Tables 𝓤 H) → Triple 𝓤 (𝓣 .C #node-at) (NodeAt 𝓤 H A mem run) → Triple 𝓤 (𝓣 .C #act) (Act 𝓤 H A mem run) → Triple 𝓤 (𝓣 .C #replace) (Replace 𝓤 H A mem run)
     → Meets 𝓤 H A place.signature (WpFn 𝓤 H (𝓣 .C) (𝓣 .Λ) code.function) (place.spec 𝓤 H A mem run)
-place-meets 𝓤 H A W mem run 𝓣 kn ko ka kr =
+place-meets 𝓤 H A W mem run 𝓣 ko ka kr =
     walk-meets 𝓤 H A place.ended stayed W (goes-gave-slice 𝓤 H A W 2 0 tt (plain (λ _. T.the-row)), (goes-gave-slice 𝓤 H A W 2 1 tt (plain (λ _. u8)), (goes-none 𝓤 H A W 2 (λ _. bool) yes (λ κs x f. refl), (goes-none 𝓤 H A W 2 (λ _. S.the-row) yes (λ κs x f. refl), (goes-none 𝓤 H A W 2 (λ _. K.the-row) yes (λ κs x f. refl), tt))))) (place.clauses 𝓤 H A mem run)
-    (WpFn 𝓤 H (𝓣 .C) (𝓣 .Λ) code.function) (WpFn-mono 𝓤 H (W .laws) 𝓣 code.function) (place-walks 𝓤 H A W mem run (𝓣 .C) (𝓣 .Λ) (fmOf 𝓤 H (W .laws) 𝓣) kn ko ka kr)
+    (WpFn 𝓤 H (𝓣 .C) (𝓣 .Λ) code.function) (WpFn-mono 𝓤 H (W .laws) 𝓣 code.function) (place-walks 𝓤 H A W mem run (𝓣 .C) (𝓣 .Λ) (fmOf 𝓤 H (W .laws) 𝓣) ko ka kr)
 
 pub act-at-place-spec : {M : Type 1} → stated.statement M
 unfolding code.routine tablesOf
@@ -273,7 +252,6 @@ act-at-place-spec 𝓤 H 𝓜 𝓖 𝓡 =
     entered 𝓤 H (tripleOf 𝓤 H (𝓖 .A) place.signature (place.spec 𝓤 H (𝓖 .A) (𝓜 .mem) (𝓡 .run)))
     (tables 𝓤 H 𝓜 𝓡 code.env .C) (tables 𝓤 H 𝓜 𝓡 code.env .Λ) #place code.function (code.unfolded 𝓤 H 𝓜 𝓡)
     (place-meets 𝓤 H (𝓖 .A) (givenOf 𝓤 H 𝓜 𝓖) (𝓜 .mem) (𝓡 .run) (tablesOf 𝓤 H 𝓜 (tables 𝓤 H 𝓜 𝓡 code.env))
-    (cited 𝓤 H (None 𝓤 H (𝓖 .A) (𝓜 .mem) (𝓡 .run)) 𝓜 𝓡 code.env #none none-def.routine code.calls-act·no-node (none-thm.met 𝓤 H 𝓜 𝓖 𝓡))
-    (cited 𝓤 H (NodeOr 𝓤 H (𝓖 .A) (𝓜 .mem) (𝓡 .run)) 𝓜 𝓡 code.env #node-or node-or-def.routine code.calls-table·node-or (node-or-thm.met 𝓤 H 𝓜 𝓖 𝓡))
+    (cited 𝓤 H (NodeAt 𝓤 H (𝓖 .A) (𝓜 .mem) (𝓡 .run)) 𝓜 𝓡 code.env #node-at node-at-def.routine code.calls-table·node-at (node-at-thm.met 𝓤 H 𝓜 𝓖 𝓡))
     (cited 𝓤 H (Act 𝓤 H (𝓖 .A) (𝓜 .mem) (𝓡 .run)) 𝓜 𝓡 code.env #act act-def.routine code.calls-act·act (act-thm.met 𝓤 H 𝓜 𝓖 𝓡))
     (cited 𝓤 H (Replace 𝓤 H (𝓖 .A) (𝓜 .mem) (𝓡 .run)) 𝓜 𝓡 code.env #replace replace-def.routine code.calls-table·replace-node (replace-thm.met 𝓤 H 𝓜 𝓖 𝓡)))

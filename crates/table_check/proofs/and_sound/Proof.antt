@@ -1,8 +1,8 @@
--- `table::and_sound` meets its contract: an early return where a node before is not sound, else the call.
+-- `table_check::and_sound` meets its contract: an early return where a node before is not sound, else the call.
 use borrow.Author.Needs.{needs}
 use borrow.Author.Tests.{not-true, not-false}
-use Rattle.table.proofs.and_sound.Statement.{statement}
-use Rattle.table.proofs.and_sound.Tie as tie
+use Rattle.table_check.proofs.and_sound.Statement.{statement}
+use Rattle.table_check.proofs.and_sound.Tie as tie
 
 returns : tie.Need-returns
 returns c = rw (not-true (c .before .args .ok) (c .if1 .taken))

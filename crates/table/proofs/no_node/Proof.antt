@@ -1,8 +1,8 @@
--- `looking::no_node` meets its contract.
+-- `table::no_node` meets its contract.
 use Rattle.protocol.specs.Table.{noNode}
 use borrow.Author.Needs.{needs}
-use Rattle.looking.proofs.no_node.Statement.{statement}
-use Rattle.looking.proofs.no_node.Tie as tie
+use Rattle.table.proofs.no_node.Statement.{statement}
+use Rattle.table.proofs.no_node.Tie as tie
 
 blank-requires : tie.Need-blank-requires
 blank-requires c κs = search needs
