@@ -7,7 +7,9 @@ use std::fmt;
 use baseline::drill::{self, Drill, Line};
 use baseline::group::Call;
 use baseline::layout::RECORD_BYTES;
+use baseline::node::Phase;
 use baseline::store::RECORDS;
+use baseline::MAX_NODES;
 
 use crate::KINDS;
 
@@ -48,6 +50,9 @@ impl Census {
             if let Some(fate) = course.fates(call, word != "refused 8") {
                 self.note(fate);
             }
+            for change in course.changed_marks() {
+                self.note(change.into());
+            }
             self.note(word);
         }
     }
@@ -61,7 +66,7 @@ impl fmt::Display for Census {
 
 /// All answers, and all refusals by call and kind of message, that a drill can
 /// reach; each call in each stage; each kind of message lost, repeated and
-/// delayed.
+/// delayed; rows marked, and marks taken away by a greater index.
 pub fn reachable() -> Vec<String> {
     let answers = ["ok", "settled", "accepted", "stopped", "unread"].map(String::from);
     let refusals: [(&str, &[u8]); 12] = [
@@ -84,8 +89,8 @@ pub fn reachable() -> Vec<String> {
     let fates = ["lost", "repeated", "delayed"]
         .into_iter()
         .flat_map(|fate| KINDS.iter().map(move |kind| format!("{fate} {kind}")));
-    let nothing = "no message refused 8".to_string();
-    answers.into_iter().chain(refused).chain(stages()).chain(fates).chain([nothing]).collect()
+    let rest = ["no message refused 8", "mark set", "mark taken away"].map(String::from);
+    answers.into_iter().chain(refused).chain(stages()).chain(fates).chain(rest).collect()
 }
 
 /// Each call and each delivery that acts, with the stages in which it may.
@@ -145,11 +150,14 @@ struct Course {
     lines: u64,
     /// The line that sent the newest message delivered so far.
     newest: u64,
+    /// The marks of each node after the line before.
+    marks: [u16; MAX_NODES],
 }
 
 impl Course {
     fn new() -> Course {
-        Course { drill: Drill::new(), held: [None; RECORDS], lines: 0, newest: 0 }
+        let (held, marks) = ([None; RECORDS], [0; MAX_NODES]);
+        Course { drill: Drill::new(), held, lines: 0, newest: 0, marks }
     }
 
     /// The call, or the kind of the message delivered, and the stage of the
@@ -208,6 +216,23 @@ impl Course {
             *held = kind.map(|kind| held.unwrap_or(Held { kind, sent, delivered: false }));
         }
         fate
+    }
+
+    /// Whether a line had a Fetching node mark a row, or take a mark away since
+    /// a greater index came.
+    fn changed_marks(&mut self) -> Vec<&'static str> {
+        let (nodes, _) = self.drill.state();
+        let mut changes = Vec::new();
+        for (before, node) in self.marks.iter_mut().zip(nodes) {
+            if node.marks & !*before != 0 {
+                changes.push("mark set");
+            }
+            if node.phase == Phase::Fetching && *before & !node.marks != 0 {
+                changes.push("mark taken away");
+            }
+            *before = node.marks;
+        }
+        changes
     }
 
     fn fate(&mut self, line: Option<Line>) -> Option<String> {

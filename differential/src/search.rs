@@ -61,12 +61,14 @@ impl Search {
     }
 
     /// Scripts that begin with this group size, of all lengths up to so many
-    /// lines.
+    /// lines; with each one in which rows part, and one that fills the store.
     pub fn scripts(&mut self, n: u8, count: usize, lines: usize) -> Option<Difference> {
         (0..count).find_map(|_| {
             let length = 1 + self.random.below(lines);
             let script = scripts::script_for(&mut self.random, n, length);
-            self.script(&script)
+            let parted = scripts::parted_rows(&mut self.random, n);
+            let full = scripts::full_store(&mut self.random, n);
+            [script, parted, full].iter().find_map(|script| self.script(script))
         })
     }
 

@@ -3,6 +3,7 @@
 //! test also counts what it reached, and fails if something never came.
 
 use baseline::compare::Difference;
+use baseline::scripts::{script_for, Random};
 use differential::census::reachable;
 use differential::report::report;
 use differential::search::Search;
@@ -47,7 +48,10 @@ fn each_size_settles_and_returns() {
 fn short_scripts() {
     let mut search = Search::new(3);
     for n in SIZES {
-        must_agree(search.scripts(n, 300, 12));
+        for length in 1..200 {
+            let script = script_for(&mut Random::new(length), n, 1 + length as usize / 10);
+            must_agree(search.script(&script));
+        }
     }
     must_agree(search.script(b""));
     must_agree(search.script(b"\n"));
