@@ -27,10 +27,12 @@ pub fn store(random: &mut Random, n: u8) -> Vec<u8> {
     bytes
 }
 
-/// Link some records of a store anew: loops, shared records, lost ones.
+/// Link some records of a store anew, now and then one to itself: loops, shared
+/// records, lost ones.
 pub fn relink(random: &mut Random, store: &mut [u8]) {
     for _ in 0..1 + random.below(3) {
-        let (from, to) = (random.below(RECORDS), random.below(RECORDS + 8) as u16);
+        let from = random.below(RECORDS);
+        let to = if random.percent(20) { from } else { random.below(RECORDS + 8) } as u16;
         let at = from * RECORD_BYTES + if from == 0 { random.below(34) } else { 0 };
         store[at..at + 2].copy_from_slice(&to.to_le_bytes());
     }

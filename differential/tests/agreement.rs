@@ -30,7 +30,7 @@ fn both_verdicts(what: &str, verdicts: [&str; 2]) -> [String; 2] {
 fn scripts_of_every_size() {
     let mut search = Search::new(1);
     for n in SIZES {
-        must_agree(search.scripts(n, 40, 600));
+        must_agree(search.scripts(n, 60, 600));
     }
     must_have_come(&search, &reachable());
 }
@@ -62,7 +62,7 @@ fn short_scripts() {
 fn stores_left_by_scripts_and_damaged() {
     let mut search = Search::new(4);
     for n in SIZES {
-        must_agree(search.stores(n, 12));
+        must_agree(search.stores(n, 50));
     }
     must_have_come(&search, &both_verdicts("damaged store", ["sound", "unsound"]));
     must_have_come(&search, &["store as a script left it: sound".into()]);
@@ -72,7 +72,7 @@ fn stores_left_by_scripts_and_damaged() {
 fn stores_with_random_chains() {
     let mut search = Search::new(5);
     for n in SIZES {
-        must_agree(search.chains(n, 40));
+        must_agree(search.chains(n, 300));
     }
     must_have_come(&search, &["store with random chains: sound".into()]);
     must_have_come(&search, &both_verdicts("store linked anew", ["sound", "unsound"]));
@@ -81,7 +81,7 @@ fn stores_with_random_chains() {
 #[test]
 fn stores_damaged_at_every_offset() {
     let mut search = Search::new(6);
-    for n in [3, 15] {
+    for n in SIZES {
         must_agree(search.offsets(n));
     }
     must_have_come(&search, &both_verdicts("store damaged in one byte", ["sound", "unsound"]));
@@ -90,7 +90,7 @@ fn stores_damaged_at_every_offset() {
 #[test]
 fn records_of_every_kind_damaged_in_every_byte() {
     let mut search = Search::new(7);
-    must_agree(search.records(2));
+    must_agree(search.records(10));
     for kind in KINDS {
         let what = format!("{kind} damaged in one byte");
         must_have_come(&search, &both_verdicts(&what, ["read", "fault"]));
