@@ -6,21 +6,21 @@ use mathlib.Core.Path.{_≡_, refl, sym, ap, _∙_}
 use mathlib.Core.Logic.{inl, inr}
 use lib.ListN.{length}
 use Rattle.answers.specs.Output.{lineRoom}
-use Rattle.progress.specs.Feeding.{progressOutput}
-use Rattle.progress.specs.FeedingLaws.{Upto, one-byte, one-line, line-within}
+use Rattle.progress.specs.Feeding.{progressOutput, Counted}
+use Rattle.progress.specs.FeedingLaws.{Upto, one-byte, one-line, line-within, line-room, byte-kept, none-kept, counted-start, counted-byte, counted-line}
 use borrow.Author.Needs.{needs}
 use Rattle.feeding.proofs.feed.Statement.{statement}
 use Rattle.feeding.proofs.feed.Tie as tie
 
 abbrev Inv-loop : tie.InvT-loop
 Inv-loop piece store₀ out₀ count₀ pending₀ drill₀ next₀ at₀ store out count pending drill next at =
-    (count < 2 ^ 64) × ((next ≤ length piece) × ((at ≤ length out) × ((length store ≡ length store₀) × ((length out ≡ length out₀) × Upto piece count₀ pending₀ drill₀ store₀ out at next count pending drill store))))
+    (count < 2 ^ 64) × ((next ≤ length piece) × ((at ≤ length out) × ((length store ≡ length store₀) × ((length out ≡ length out₀) × (Upto piece count₀ pending₀ drill₀ store₀ out at next count pending drill store × Counted piece count₀ (pending₀ .len) next at count (pending .len))))))
 
 abbrev μ-loop : tie.MeasureT-loop
 μ-loop piece store₀ out₀ count₀ pending₀ drill₀ next₀ at₀ store out count pending drill next at = length piece - next
 
 loop-holds : tie.Need-loop-holds Inv-loop μ-loop
-loop-holds c = (search needs, (omega arith, (omega arith, (refl, (refl, λ rest. refl)))))
+loop-holds c = (search needs, (omega arith, (omega arith, (refl, (refl, (λ rest. refl, counted-start _ _ _))))))
 
 shared-slice-read-b : tie.Need-shared-slice-read-b Inv-loop μ-loop
 shared-slice-read-b c = search needs
@@ -46,7 +46,10 @@ loop-again c =
             l .inv .1 .1 .1 .0,
             (
               l .inv .1 .1 .1 .1 .0,
-              rw (c .push .ensures) (one-byte _ _ _ _ _ (l .out) (l .at) (l .next) (l .count) (l .pending) (l .drill) (l .store) (c .before .before .before .loop-test .taken) (c .before .if1 .taken) (l .inv .1 .1 .1 .1 .1)),
+              (
+                rw (c .push .ensures) (one-byte _ _ _ _ _ (l .out) (l .at) (l .next) (l .count) (l .pending) (l .drill) (l .store) (c .before .before .before .loop-test .taken) (c .before .if1 .taken) (l .inv .1 .1 .1 .1 .1 .0)),
+                counted-byte _ _ _ _ _ _ _ (l .inv .1 .1 .1 .1 .1 .1) (c .before .before .before .loop-test .taken) _ (c .before .if1 .taken) (byte-kept _ _ _ (c .push .ensures)),
+              ),
             ),
           ),
         ),
@@ -92,7 +95,10 @@ loop-again-2 c =
             search needs,
             (
               w .1 ∙ l .inv .1 .1 .1 .1 .0,
-              rw (c .before .before .before .before .none .ensures) (one-line _ _ _ _ _ (l .out) (l .at) (l .next) (l .count) (l .pending) (l .drill) (l .store) (c .before .before .before .before .before .before .before .before .before .before .before .before .before .before .before .loop-test .taken) (c .before .before .before .before .before .before .before .before .before .before .before .before .before .if1 .left) room (b .take-line .result) _ _ _ (rw (b .before .read-pending .ensures) at (b .take-line .ensures .0)) (rw (b .before .read-pending .ensures) at (b .take-line .ensures .1)) (c .before .before .print-line .ensures) (l .inv .1 .1 .1 .1 .1)),
+              (
+                rw (c .before .before .before .before .none .ensures) (one-line _ _ _ _ _ (l .out) (l .at) (l .next) (l .count) (l .pending) (l .drill) (l .store) (c .before .before .before .before .before .before .before .before .before .before .before .before .before .before .before .loop-test .taken) (c .before .before .before .before .before .before .before .before .before .before .before .before .before .if1 .left) room (b .take-line .result) _ _ _ (rw (b .before .read-pending .ensures) at (b .take-line .ensures .0)) (rw (b .before .read-pending .ensures) at (b .take-line .ensures .1)) (c .before .before .print-line .ensures) (l .inv .1 .1 .1 .1 .1 .0)),
+                counted-line _ _ _ _ _ _ _ (l .inv .1 .1 .1 .1 .1 .1) (c .before .before .before .before .before .before .before .before .before .before .before .before .before .before .before .loop-test .taken) _ _ (c .before .before .before .before .before .before .before .before .before .before .before .before .before .if1 .left) (line-room (l .out) (l .at) (l .count + 1) (b .take-line .result .reply) _ _ room (c .before .before .print-line .ensures)) (none-kept _ (c .before .before .before .before .none .ensures)),
+              ),
             ),
           ),
         ),
@@ -107,7 +113,7 @@ same-length-2 c = search needs
 
 returns : tie.Need-returns Inv-loop μ-loop
 unfolding progressOutput
-returns c = let l = c .before .loop in record { output = λ rest. l .inv .1 .1 .1 .1 .1 rest; within = (l .inv .1 .0, l .inv .1 .1 .0); ended = inl (omega (arith, c .loop-test .left, l .inv .1 .0)) }
+returns c = let l = c .before .loop in record { output = λ rest. l .inv .1 .1 .1 .1 .1 .0 rest; within = (l .inv .1 .0, l .inv .1 .1 .0); counted = l .inv .1 .1 .1 .1 .1 .1; ended = inl (omega (arith, c .loop-test .left, l .inv .1 .0)) }
 
 same-length-3 : tie.Need-same-length-3 Inv-loop μ-loop
 same-length-3 c = search needs
@@ -117,7 +123,7 @@ same-length-4 c = search needs
 
 returns-2 : tie.Need-returns-2 Inv-loop μ-loop
 unfolding progressOutput
-returns-2 c = let l = c .before .before .before .before .loop in record { output = λ rest. l .inv .1 .1 .1 .1 .1 rest; within = (l .inv .1 .0, l .inv .1 .1 .0); ended = inr (inl (omega (arith, c .if2 .taken, l .inv .1 .1 .0))) }
+returns-2 c = let l = c .before .before .before .before .loop in record { output = λ rest. l .inv .1 .1 .1 .1 .1 .0 rest; within = (l .inv .1 .0, l .inv .1 .1 .0); counted = l .inv .1 .1 .1 .1 .1 .1; ended = inr (inl (omega (arith, c .if2 .taken, l .inv .1 .1 .0))) }
 
 same-length-5 : tie.Need-same-length-5 Inv-loop μ-loop
 same-length-5 c = search needs
@@ -127,7 +133,7 @@ same-length-6 c = search needs
 
 returns-3 : tie.Need-returns-3 Inv-loop μ-loop
 unfolding progressOutput
-returns-3 c = let l = c .before .before .before .before .before .loop in record { output = λ rest. l .inv .1 .1 .1 .1 .1 rest; within = (l .inv .1 .0, l .inv .1 .1 .0); ended = inr (inr (omega (arith, c .if3 .taken))) }
+returns-3 c = let l = c .before .before .before .before .before .loop in record { output = λ rest. l .inv .1 .1 .1 .1 .1 .0 rest; within = (l .inv .1 .0, l .inv .1 .1 .0); counted = l .inv .1 .1 .1 .1 .1 .1; ended = inr (inr (omega (arith, c .if3 .taken))) }
 
 pub feed-spec : {M : Type 1} → statement M
 feed-spec =
