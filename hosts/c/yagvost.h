@@ -30,8 +30,8 @@ size_t yagvost_run_script(const uint8_t *script, size_t script_length, uint8_t *
 /* Whether these bytes are a sound message store of a group of n nodes. */
 bool yagvost_is_sound(const uint8_t *store, size_t length, uint64_t n);
 
-/* Reads the message in a record of these bytes, for a group of n nodes; count is YAGVOST_NUMBERS. False where there is
- * no such record, where it is not a message, or where count is another. */
+/* Reads the message in a record of these bytes, for a group of n nodes; count is YAGVOST_NUMBERS. False, and then no
+ * number has changed, where there is no such record, where it is not a message, or where count is another. */
 bool yagvost_read_record(const uint8_t *bytes, size_t length, uint64_t record, uint64_t n, uint64_t *numbers,
                          size_t count);
 
