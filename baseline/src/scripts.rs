@@ -144,6 +144,25 @@ pub fn script_for(random: &mut Random, n: u8, lines: usize) -> Vec<u8> {
     author.script
 }
 
+/// A script in which the rows of some nodes part and another node returns.
+pub fn parted_rows(random: &mut Random, n: u8) -> Vec<u8> {
+    let mut author = Author::new(random);
+    author.line(format_args!("n {n}"));
+    let node = author.random.below(n.into()) as u64;
+    author.part_and_come_back(node);
+    author.script
+}
+
+/// A script in which a node returns while the store is full.
+pub fn full_store(random: &mut Random, n: u8) -> Vec<u8> {
+    let mut author = Author::new(random);
+    author.habits.clean = 0;
+    author.line(format_args!("n {n}"));
+    let node = author.random.below(n.into()) as u64;
+    author.come_back_in_a_full_store(node);
+    author.script
+}
+
 /// A script of whole writes, one node after the other, each message delivered
 /// and dropped, while about `held` more messages lie in the store. It has at
 /// least as many lines, all of them read; for measuring.
@@ -301,16 +320,20 @@ impl<'a> Author<'a> {
         if fresh.is_empty() && self.random.percent(80) {
             return self.go_on();
         }
-        let first = match self.habits.order {
-            Order::Oldest => fresh.first().copied(),
-            Order::Newest => fresh.last().copied(),
-            Order::Any => self.random.any(&fresh),
-        };
-        let record = match first {
+        let record = match self.next_of(&fresh) {
             Some(record) if !self.random.percent(self.habits.repeat) => record,
             _ => self.random.any(&self.arrivals).unwrap_or(self.habits.tags as u16),
         };
         self.deliver_record(record);
+    }
+
+    /// The one of some messages, by arrival, that the script's order takes next.
+    fn next_of(&mut self, messages: &[u16]) -> Option<u16> {
+        match self.habits.order {
+            Order::Oldest => messages.first().copied(),
+            Order::Newest => messages.last().copied(),
+            Order::Any => self.random.any(messages),
+        }
     }
 
     fn deliver_record(&mut self, record: u16) {
@@ -345,16 +368,19 @@ impl<'a> Author<'a> {
                 self.repeat_after_return(node);
                 self.habits.clean = clean;
             }
-            _ => {
-                self.part(node);
-                if self.random.percent(40) {
-                    let second = self.node(|phase| *phase == Phase::Up(Stage::Idle));
-                    self.part(second);
-                }
-                let other = self.node(|phase| *phase == Phase::Up(Stage::Idle));
-                self.come_back(other);
-            }
+            _ => self.part_and_come_back(node),
         }
+    }
+
+    /// Rows part, and then another node returns.
+    fn part_and_come_back(&mut self, node: u64) {
+        self.part(node);
+        if self.random.percent(40) {
+            let second = self.node(|phase| *phase == Phase::Up(Stage::Idle));
+            self.part(second);
+        }
+        let other = self.node(|phase| *phase == Phase::Up(Stage::Idle));
+        self.come_back(other);
     }
 
     /// Two writes of one index: the first comes late and only to some.
@@ -368,11 +394,56 @@ impl<'a> Author<'a> {
         }
         let some = 1 + self.random.below(late.len() + 1);
         late.into_iter().take(some).for_each(|record| self.deliver_record(record));
-        if self.random.percent(30) {
+        if self.random.percent(50) {
             self.exchange(node);
             self.line(format_args!("w {node} 3"));
-            self.deliver();
+            for _ in 0..1 + self.random.below(2) {
+                self.deliver();
+            }
         }
+    }
+
+    /// Only some know a node's newest item when it restarts, and while it waits
+    /// for its last table the store is full for a while: what is refused then
+    /// must leave no trace.
+    fn come_back_in_a_full_store(&mut self, node: u64) {
+        self.line(format_args!("w {node} 5"));
+        for _ in 0..self.random.below(4) {
+            self.deliver_about(node);
+        }
+        self.hold_back();
+        self.line(format_args!("c {node}"));
+        self.line(format_args!("s {node}"));
+        while self.lacks_tables(node) && self.deliver_about(node) {}
+        let filled = self.fill();
+        for _ in 0..self.random.below(6) {
+            self.deliver_about(node);
+        }
+        filled.into_iter().for_each(|record| self.line(format_args!("x {record}")));
+        self.delivered = [false; RECORDS];
+        self.exchange(node);
+    }
+
+    /// Does a node want more than one table yet?
+    fn lacks_tables(&self, node: u64) -> bool {
+        let (nodes, _) = self.drill.state();
+        let node = nodes.iter().find(|other| u64::from(other.number) == node);
+        node.is_some_and(|node| node.counted.len() < node.f())
+    }
+
+    /// Have some node send until there is no room; the records that it filled.
+    fn fill(&mut self) -> Vec<u16> {
+        let before = self.held;
+        let node = self.node(|phase| *phase == Phase::Up(Stage::Idle));
+        self.line(format_args!("w {node} 6"));
+        loop {
+            let held = self.arrivals.len();
+            self.line(format_args!("r {node}"));
+            if self.arrivals.len() == held {
+                break;
+            }
+        }
+        self.arrivals.iter().copied().filter(|record| !before[usize::from(*record)]).collect()
     }
 
     /// A peer restarts while the node writes, and then everything that was
@@ -394,17 +465,23 @@ impl<'a> Author<'a> {
         self.exchange(node);
     }
 
-    /// Deliver what goes to and from a node until nothing is left of it.
+    /// Deliver what goes to and from a node, in the script's order, until
+    /// nothing is left of it.
     fn exchange(&mut self, node: u64) {
-        while !self.random.percent(2) {
-            let (_, store) = self.drill.state();
-            let ends = |record: u16| store[usize::from(record) * RECORD_BYTES + 3];
-            let is_about = |record: &u16| {
-                u64::from(ends(*record) >> 4) == node || u64::from(ends(*record) & 15) == node
-            };
-            let Some(record) = self.fresh().into_iter().find(is_about) else { break };
-            self.deliver_record(record);
-        }
+        while !self.random.percent(2) && self.deliver_about(node) {}
+    }
+
+    /// Deliver a message to or from a node; false if there is none.
+    fn deliver_about(&mut self, node: u64) -> bool {
+        let (_, store) = self.drill.state();
+        let ends = |record: u16| store[usize::from(record) * RECORD_BYTES + 3];
+        let is_about = |record: &u16| {
+            u64::from(ends(*record) >> 4) == node || u64::from(ends(*record) & 15) == node
+        };
+        let about: Vec<u16> = self.fresh().into_iter().filter(is_about).collect();
+        let next = self.next_of(&about);
+        next.into_iter().for_each(|record| self.deliver_record(record));
+        next.is_some()
     }
 
     /// Keep all messages not delivered yet from being chosen for now.

@@ -1,6 +1,6 @@
 -- The same as the program does it: the input comes in pieces, at most 64 bytes of a line are kept, and what is printed
 -- goes out in pieces.
-use Prim.Native.Nat.{ℕ, suc, _+_, _<_, _≤_, _^_}
+use Prim.Native.Nat.{ℕ, suc, _+_, _*_, _<_, _≤_, _^_}
 use mathlib.Core.Path.{_≡_}
 use mathlib.Core.Logic.{_⊎_}
 use mathlib.Core.Bool.{cond}
@@ -37,10 +37,23 @@ progressOutput p store bs = pendingOutput (p .count) (p .pending) (p .drill) sto
 abbrev pub fedAt : ℕ → ℕ → ℕ → Pending → Drill → Fed
 fedAt next at count pending drill = record { next = next; at = at; progress = record { count = count; pending = pending; drill = drill } }
 
+-- how many line feeds there are
+unfoldable pub lineFeeds : List ℕ → ℕ
+lineFeeds [] = 0
+lineFeeds (b ∷ bs) = cond (eqb b lineFeed) (suc (lineFeeds bs)) (lineFeeds bs)
+
+-- what was counted before a piece and after its first `next` bytes: each line ended and each byte kept of the next line
+-- took a byte, each line feed ended a line, and none of the lines printed is longer than the longest
+pub record Counted (piece : List ℕ) (countBefore lenBefore next at count len : ℕ) : Type 0 where
+  pub bytes : count + len ≤ countBefore + lenBefore + next
+  pub lines : count + lineFeeds (drop next piece) ≡ countBefore + lineFeeds piece
+  pub room : at + lineRoom * countBefore ≤ lineRoom * count
+
 -- a piece of the input was taken up to `next`, and what it prints stands in the first `at` bytes of `out`: whatever comes
 -- after the piece, the rest of the output is what is printed from here on. All of the piece was taken, unless there was
 -- no room for another line or no count for it.
 pub record Taken (piece : List ℕ) (before : Progress) (storeBefore : List ℕ) (next at : ℕ) (out : List ℕ) (after : Progress) (store : List ℕ) : Type 0 where
   pub output : (rest : List ℕ) → progressOutput before storeBefore (piece ++ rest) ≡ take at out ++ progressOutput after store (drop next piece ++ rest)
   pub within : (next ≤ length piece) × (at ≤ length out)
+  pub counted : Counted piece (before .count) (before .pending .len) next at (after .count) (after .pending .len)
   pub ended : (next ≡ length piece) ⊎ ((length out < at + lineRoom) ⊎ (suc (after .count) ≡ 2 ^ 64))

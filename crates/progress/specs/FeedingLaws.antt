@@ -5,10 +5,11 @@ use native.Mathlib.Omega.{arith}
 use mathlib.Core.Path.{_≡_, refl, sym, ap, _∙_}
 use mathlib.Core.Bool.{Bool, true, false, cond}
 use mathlib.Core.List.{List, [], _∷_, _++_, append-assoc}
-use lib.Dec.{eqb, leb}
-use lib.ListN.{length, getD, take, drop, replicate, length-append, length-take}
+use lib.Dec.{eqb, leb, ltb}
+use lib.ListN.{length, getD, take, drop, set, replicate, length-append, length-take}
 use lib.Seq.{sets, length-sets, sets-eq, drop-cons, take-at, length-take-le}
 use borrow.Author.Tests.{eq-eqb, ne-eqb, leb-true, leb-false}
+use Rattle.item.specs.Tests.{by-cond}
 use Rattle.answers.specs.Output.{outputLine, lineRoom}
 use Rattle.answers.specs.Printing.{line-length}
 use Rattle.answers.specs.declared.Reply.{Reply}
@@ -23,7 +24,7 @@ use Rattle.pending.specs.Gathered.{gathered, gathered-length}
 use Rattle.store.specs.Records.{recordCount}
 use Rattle.progress.specs.Turn.{Done, noGroup, lineDone}
 use Rattle.progress.specs.Drill.{lastOutput, outputFrom, drillOutput}
-use Rattle.progress.specs.Feeding.{atStart, pendingOutput, progressOutput}
+use Rattle.progress.specs.Feeding.{atStart, pendingOutput, progressOutput, lineFeeds, Counted}
 use Rattle.progress.specs.declared.Drill.{Drill}
 use Rattle.progress.specs.declared.Turn.{Turn}
 
@@ -74,6 +75,43 @@ line-within out at count r out′ at′ h e = by-room (leb (at + lineRoom) (leng
         let a : at′ ≡ at = e .0 ∙ after-none lineRoom out at (outputLine count r) few in
         let l : length out′ ≡ length out = ap length (e .1 ∙ placed-none lineRoom out at (outputLine count r) few) in
         (omega (arith, a, l), l)
+
+-- one byte more is kept of a line, or none; and of a line of which nothing has come there is none
+pub byte-kept : (p q : Pending) (b : ℕ) → q ≡ pushed p b → q .len ≤ p .len + 1
+unfolding pushed
+byte-kept p q b e =
+    rw e
+    (by-cond (λ (k : Pending). k .len ≤ p .len + 1) (ltb (p .len) mostBytes) (record { bytes = set (p .bytes) (p .len) b; len = suc (p .len) }) p
+    (λ _. omega arith)
+    (λ _. omega arith))
+
+pub none-kept : (q : Pending) → q ≡ noneYet → q .len ≡ 0
+unfolding noneYet
+none-kept q e = rw e
+
+-- a line that was printed takes no more than the longest
+pub line-room : (out : List ℕ) (at count : ℕ) (r : Reply) (out′ : List ℕ) (at′ : ℕ) → at + lineRoom ≤ length out
+    → (at′ ≡ placeAfter lineRoom out at (outputLine count r)) × (out′ ≡ placed lineRoom out at (outputLine count r)) → at′ ≤ at + lineRoom
+line-room out at count r out′ at′ room e =
+    let a : at′ ≡ at + length (outputLine count r) = e .0 ∙ after-fits lineRoom out at (outputLine count r) room in
+    omega (arith, a, line-length count r)
+
+-- ---- what is counted: at the start of a piece, after a byte, and after a line
+pub counted-start : (piece : List ℕ) (count len : ℕ) → Counted piece count len 0 0 count len
+counted-start piece count len = record { bytes = omega arith; lines = refl; room = omega arith }
+
+module _ (piece : List ℕ) (count₀ len₀ i at count len : ℕ) (k : Counted piece count₀ len₀ i at count len) (h : i < length piece) where
+  pub counted-byte : (len′ : ℕ) → (getD piece i 0 ≡ lineFeed → ⊥) → len′ ≤ len + 1 → Counted piece count₀ len₀ (i + 1) at count len′
+  unfolding lineFeeds
+  counted-byte len′ n l =
+      let e : lineFeeds (drop i piece) ≡ lineFeeds (drop (i + 1) piece) = rw (drop-cons piece i 0 h, ne-eqb (getD piece i 0) lineFeed n, add-one) in
+      record { bytes = omega (arith, k .bytes, l); lines = omega (arith, k .lines, e); room = k .room }
+
+  pub counted-line : (at′ len′ : ℕ) → getD piece i 0 ≡ lineFeed → at′ ≤ at + lineRoom → len′ ≡ 0 → Counted piece count₀ len₀ (i + 1) at′ (count + 1) len′
+  unfolding lineFeeds
+  counted-line at′ len′ n a l =
+      let e : lineFeeds (drop i piece) ≡ suc (lineFeeds (drop (i + 1) piece)) = rw (drop-cons piece i 0 h, eq-eqb (getD piece i 0) lineFeed n, add-one) in
+      record { bytes = omega (arith, k .bytes, l); lines = omega (arith, k .lines, e); room = omega (arith, k .room, a) }
 
 module _ (piece : List ℕ) (count₀ : ℕ) (pending₀ : Pending) (drill₀ : Drill) (store₀ : List ℕ) where
   pub one-byte : (out : List ℕ) (at i count : ℕ) (pending : Pending) (drill : Drill) (store : List ℕ) → i < length piece → (getD piece i 0 ≡ lineFeed → ⊥)

@@ -10,21 +10,21 @@ use Rattle.answers.specs.declared.Reply.the-variants as reply
 use Rattle.script.specs.declared.Line.{Line}
 use Rattle.progress.specs.declared.Turn.{Turn}
 use Rattle.progress.specs.Turn.{Done, lineDone, lineFor, readDone, unread}
-use Rattle.progress.specs.Feeding.{progressOutput}
-use Rattle.progress.specs.FeedingLaws.{Upto, one-byte, one-line, line-within}
+use Rattle.progress.specs.Feeding.{progressOutput, Counted}
+use Rattle.progress.specs.FeedingLaws.{Upto, one-byte, one-line, line-within, line-room, byte-kept, none-kept, counted-start, counted-byte, counted-line}
 use borrow.Author.Needs.{needs}
 use Rattle.feeding.proofs.feed.Statement.{statement}
 use Rattle.feeding.proofs.feed.Tie as tie
 
 abbrev Inv-loop : tie.InvT-loop
 Inv-loop piece store₀ out₀ count₀ pending₀ drill₀ next₀ at₀ store out count pending drill next at =
-    (count < 2 ^ 64) × ((next ≤ length piece) × ((at ≤ length out) × ((length store ≡ length store₀) × ((length out ≡ length out₀) × Upto piece count₀ pending₀ drill₀ store₀ out at next count pending drill store))))
+    (count < 2 ^ 64) × ((next ≤ length piece) × ((at ≤ length out) × ((length store ≡ length store₀) × ((length out ≡ length out₀) × (Upto piece count₀ pending₀ drill₀ store₀ out at next count pending drill store × Counted piece count₀ (pending₀ .len) next at count (pending .len))))))
 
 abbrev μ-loop : tie.MeasureT-loop
 μ-loop piece store₀ out₀ count₀ pending₀ drill₀ next₀ at₀ store out count pending drill next at = length piece - next
 
 loop-holds : tie.Need-loop-holds Inv-loop μ-loop
-loop-holds c = (search needs, (omega arith, (omega arith, (refl, (refl, λ rest. refl)))))
+loop-holds c = (search needs, (omega arith, (omega arith, (refl, (refl, (λ rest. refl, counted-start _ _ _))))))
 
 shared-slice-read-b : tie.Need-shared-slice-read-b Inv-loop μ-loop
 shared-slice-read-b c = search needs
@@ -50,7 +50,10 @@ loop-again c =
             l .inv .1 .1 .1 .0,
             (
               l .inv .1 .1 .1 .1 .0,
-              rw (c .push .ensures) (one-byte _ _ _ _ _ (l .out) (l .at) (l .next) (l .count) (l .pending) (l .drill) (l .store) (c .before .before .before .loop-test .taken) (c .before .if1 .taken) (l .inv .1 .1 .1 .1 .1)),
+              (
+                rw (c .push .ensures) (one-byte _ _ _ _ _ (l .out) (l .at) (l .next) (l .count) (l .pending) (l .drill) (l .store) (c .before .before .before .loop-test .taken) (c .before .if1 .taken) (l .inv .1 .1 .1 .1 .1 .0)),
+                counted-byte _ _ _ _ _ _ _ (l .inv .1 .1 .1 .1 .1 .1) (c .before .before .before .loop-test .taken) _ (c .before .if1 .taken) (byte-kept _ _ _ (c .push .ensures)),
+              ),
             ),
           ),
         ),
@@ -106,7 +109,10 @@ loop-again-2 c =
             search needs,
             (
               w .1 ∙ l .inv .1 .1 .1 .1 .0,
-              rw (p .none .ensures) (one-line _ _ _ _ _ (l .out) (l .at) (l .next) (l .count) (l .pending) (l .drill) (l .store) (p .before .before .before .before .before .before .before .loop-test .taken) (p .before .before .before .before .before .if1 .left) room (c .before .before .before .before .before .before .before .begin .result) _ _ _ (e .0 ∙ ap (λ (x : Done). x .turn) (sym d)) (e .1 ∙ ap (λ (x : Done). x .store) (sym d)) (c .before .before .print-line .ensures) (l .inv .1 .1 .1 .1 .1)),
+              (
+                rw (p .none .ensures) (one-line _ _ _ _ _ (l .out) (l .at) (l .next) (l .count) (l .pending) (l .drill) (l .store) (p .before .before .before .before .before .before .before .loop-test .taken) (p .before .before .before .before .before .if1 .left) room (c .before .before .before .before .before .before .before .begin .result) _ _ _ (e .0 ∙ ap (λ (x : Done). x .turn) (sym d)) (e .1 ∙ ap (λ (x : Done). x .store) (sym d)) (c .before .before .print-line .ensures) (l .inv .1 .1 .1 .1 .1 .0)),
+                counted-line _ _ _ _ _ _ _ (l .inv .1 .1 .1 .1 .1 .1) (p .before .before .before .before .before .before .before .loop-test .taken) _ _ (p .before .before .before .before .before .if1 .left) (line-room (l .out) (l .at) (l .count + 1) (c .before .before .before .before .before .before .before .begin .result .reply) _ _ room (c .before .before .print-line .ensures)) (none-kept _ (p .none .ensures)),
+              ),
             ),
           ),
         ),
@@ -144,7 +150,10 @@ loop-again-3 c =
             search needs,
             (
               w .1 ∙ l .inv .1 .1 .1 .1 .0,
-              rw (p .none .ensures) (one-line _ _ _ _ _ (l .out) (l .at) (l .next) (l .count) (l .pending) (l .drill) (l .store) (p .before .before .before .before .before .before .before .loop-test .taken) (p .before .before .before .before .before .if1 .left) room (c .before .before .before .before .before .before .before .call .result) _ _ _ (e .0 ∙ ap (λ (x : Done). x .turn) (sym d)) (e .1 ∙ ap (λ (x : Done). x .store) (sym d)) (c .before .before .print-line2 .ensures) (l .inv .1 .1 .1 .1 .1)),
+              (
+                rw (p .none .ensures) (one-line _ _ _ _ _ (l .out) (l .at) (l .next) (l .count) (l .pending) (l .drill) (l .store) (p .before .before .before .before .before .before .before .loop-test .taken) (p .before .before .before .before .before .if1 .left) room (c .before .before .before .before .before .before .before .call .result) _ _ _ (e .0 ∙ ap (λ (x : Done). x .turn) (sym d)) (e .1 ∙ ap (λ (x : Done). x .store) (sym d)) (c .before .before .print-line2 .ensures) (l .inv .1 .1 .1 .1 .1 .0)),
+                counted-line _ _ _ _ _ _ _ (l .inv .1 .1 .1 .1 .1 .1) (p .before .before .before .before .before .before .before .loop-test .taken) _ _ (p .before .before .before .before .before .if1 .left) (line-room (l .out) (l .at) (l .count + 1) (c .before .before .before .before .before .before .before .call .result .reply) _ _ room (c .before .before .print-line2 .ensures)) (none-kept _ (p .none .ensures)),
+              ),
             ),
           ),
         ),
@@ -179,7 +188,10 @@ loop-again-4 c =
             search needs,
             (
               w .1 ∙ l .inv .1 .1 .1 .1 .0,
-              rw (p .none .ensures) (one-line _ _ _ _ _ (l .out) (l .at) (l .next) (l .count) (l .pending) (l .drill) (l .store) (p .before .before .before .before .before .before .before .loop-test .taken) (p .before .before .before .before .before .if1 .left) room (turn) _ _ _ (ap (λ (x : Done). x .turn) (sym d)) (ap (λ (x : Done). x .store) (sym d)) (c .before .before .print-line3 .ensures) (l .inv .1 .1 .1 .1 .1)),
+              (
+                rw (p .none .ensures) (one-line _ _ _ _ _ (l .out) (l .at) (l .next) (l .count) (l .pending) (l .drill) (l .store) (p .before .before .before .before .before .before .before .loop-test .taken) (p .before .before .before .before .before .if1 .left) room (turn) _ _ _ (ap (λ (x : Done). x .turn) (sym d)) (ap (λ (x : Done). x .store) (sym d)) (c .before .before .print-line3 .ensures) (l .inv .1 .1 .1 .1 .1 .0)),
+                counted-line _ _ _ _ _ _ _ (l .inv .1 .1 .1 .1 .1 .1) (p .before .before .before .before .before .before .before .loop-test .taken) _ _ (p .before .before .before .before .before .if1 .left) (line-room (l .out) (l .at) (l .count + 1) (turn .reply) _ _ room (c .before .before .print-line3 .ensures)) (none-kept _ (p .none .ensures)),
+              ),
             ),
           ),
         ),
@@ -201,8 +213,9 @@ returns c =
     let l = c .before .before .loop in
     rw (c .fed .ensures)
     (record {
-      output = λ rest. l .inv .1 .1 .1 .1 .1 rest;
+      output = λ rest. l .inv .1 .1 .1 .1 .1 .0 rest;
       within = (l .inv .1 .0, l .inv .1 .1 .0);
+      counted = l .inv .1 .1 .1 .1 .1 .1;
       ended =
           ⊎-elim
           (λ w. inl (omega (arith, w .left, l .inv .1 .0)))

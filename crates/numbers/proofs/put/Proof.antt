@@ -1,0 +1,36 @@
+-- `numbers::put` meets its contract: two parts that meet are all.
+use native.Mathlib.Omega.{arith}
+use denote.Ref.{now}
+use mathlib.Core.Path.{sym}
+use Rattle.endian.specs.PartLaws.{with-none}
+use Rattle.layout.specs.LayoutLaws.{length-mapped}
+use Rattle.numbers.specs.Numbers.{numberCount}
+use Rattle.numbers.specs.NumberLaws.{with-all-numbers}
+use borrow.Author.Needs.{needs}
+use Rattle.numbers.proofs.put.Statement.{statement}
+use Rattle.numbers.proofs.put.Tie as tie
+
+returns : tie.Need-returns
+returns c = let a = c .before .before .args in sym (with-none numberCount (now (a .numbers)) 0 _ (omega arith))
+
+put-fields-requires : tie.Need-put-fields-requires
+put-fields-requires c κs = search needs
+
+put-rows-requires : tie.Need-put-rows-requires
+put-rows-requires c κs = search needs
+
+same-length : tie.Need-same-length
+same-length c = search needs
+
+returns-2 : tie.Need-returns-2
+returns-2 c = let a = c .before .before .before .before .before .before .before .before .before .before .args in rw (c .before .before .put-rows .ensures, c .before .before .before .before .before .before .put-fields .ensures) (with-all-numbers (now (a .numbers)) (a .next) (a .fields) (a .rows) (omega arith) (search length-mapped))
+
+pub put-spec : {M : Type 1} → statement M
+put-spec =
+    tie.close
+    (tie.spec
+    returns
+    put-fields-requires
+    put-rows-requires
+    same-length
+    returns-2)

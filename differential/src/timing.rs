@@ -1,0 +1,190 @@
+//! Times the two implementations in turn, so that what slows the machine for a
+//! while slows both.
+
+use std::hint::black_box;
+use std::io;
+use std::time::{Duration, Instant};
+
+use baseline::contender::{run_program, Baseline, Contender};
+use baseline::layout::{self, or_of_words, RECORD_BYTES};
+use baseline::scripts::{self, Random};
+use baseline::store::STORE_BYTES;
+
+use crate::linked::{record, Linked};
+
+/// How often each measure is taken, and for how long.
+#[derive(Clone, Copy, Debug)]
+pub struct Effort {
+    pub repeats: usize,
+    pub time: Duration,
+}
+
+impl Effort {
+    pub const FULL: Effort = Effort { repeats: 25, time: Duration::from_millis(20) };
+}
+
+/// The times of one step, in nanoseconds, one for each repeat.
+#[derive(Clone, Debug, Default)]
+pub struct Samples(Vec<f64>);
+
+impl Samples {
+    pub fn add(&mut self, nanoseconds: f64) {
+        self.0.push(nanoseconds);
+    }
+
+    /// The fastest, since anything else on the machine only slows it.
+    pub fn best(&self) -> f64 {
+        self.0.iter().copied().fold(f64::INFINITY, f64::min)
+    }
+
+    /// How far the median lies above the best, in percent.
+    pub fn spread(&self) -> f64 {
+        let mut sorted = self.0.clone();
+        sorted.sort_by(f64::total_cmp);
+        let median = sorted.get(sorted.len() / 2).copied().unwrap_or(f64::NAN);
+        100.0 * (median / self.best() - 1.0)
+    }
+}
+
+/// One measure of both.
+#[derive(Clone, Debug, Default)]
+pub struct Pair {
+    pub what: String,
+    pub baseline: Samples,
+    pub library: Samples,
+}
+
+impl Pair {
+    /// The library's time for each of the baseline's: at most 1 if it is at
+    /// or ahead.
+    pub fn ratio(&self) -> f64 {
+        self.library.best() / self.baseline.best()
+    }
+}
+
+/// Times both, and the floor beside them.
+pub struct Stopwatch {
+    effort: Effort,
+    /// The floor: one plain pass over a store's bytes.
+    pub floor: Samples,
+}
+
+impl Stopwatch {
+    pub fn new(effort: Effort) -> Stopwatch {
+        Stopwatch { effort, floor: Samples::default() }
+    }
+
+    /// One line of a script of whole writes, in the process.
+    pub fn event(&mut self, n: u8, held: usize) -> Pair {
+        let script = scripts::settling(n, held, 3000);
+        let lines = script.iter().filter(|byte| **byte == b'\n').count();
+        let (mut linked, mut out) = (Linked::default(), Vec::new());
+        let mut run = |contender: &mut dyn Contender| {
+            out.clear();
+            contender.run_script(black_box(&script), &mut out);
+        };
+        let what = format!("event, n {n}, {held} messages held");
+        self.time(what, lines, |is_library| match is_library {
+            false => run(&mut Baseline),
+            true => run(&mut linked),
+        })
+    }
+
+    /// One soundness check of a store with so many messages.
+    pub fn check(&mut self, n: u8, held: usize) -> Pair {
+        let store = scripts::store_with(n, held);
+        let what = format!("soundness check, n {n}, {held} messages held");
+        self.time(what, 1, |is_library| {
+            let sound = match is_library {
+                false => Baseline.is_sound(black_box(&store), n),
+                true => Linked::default().is_sound(black_box(&store), n),
+            };
+            assert!(sound);
+        })
+    }
+
+    /// One record of this kind, 1 to 6, read: by the baseline as a letter, by
+    /// the library as numbers, the form that each gives.
+    pub fn reading(&mut self, kind: u8, name: &str) -> Pair {
+        let mut random = Random::new(kind.into());
+        let records: Vec<_> = (0..64).map(|_| scripts::record(&mut random, kind, 15)).collect();
+        self.time(format!("read {name}"), records.len(), |is_library| {
+            for record in &records {
+                match is_library {
+                    false => assert!(black_box(layout::read_record(black_box(record), 15)).is_ok()),
+                    true => {
+                        assert!(black_box(yagvost::read_record(black_box(record), 0, 15)).is_some())
+                    }
+                }
+            }
+        })
+    }
+
+    /// One record of this kind, 1 to 6, written from the same forms.
+    pub fn writing(&mut self, kind: u8, name: &str) -> Pair {
+        let mut random = Random::new(kind.into());
+        let letters: Vec<_> = (0..64).map(|_| scripts::letter(&mut random, kind, 15)).collect();
+        let numbers: Vec<_> = letters.iter().map(record).collect();
+        let mut bytes = [0; RECORD_BYTES];
+        self.time(format!("write {name}"), letters.len(), |is_library| {
+            for (letter, numbers) in letters.iter().zip(&numbers) {
+                let to = black_box(&mut bytes[..]);
+                assert!(match is_library {
+                    false => layout::write_record(to, black_box(letter), 15).is_ok(),
+                    true => yagvost::write_record(to, 0, 15, black_box(numbers)),
+                });
+            }
+        })
+    }
+
+    /// Both in turn, after a round each that does not count. A round has so
+    /// many steps, and is told whether it is the library's.
+    fn time(&mut self, what: String, steps: usize, mut round: impl FnMut(bool)) -> Pair {
+        let mut pair = Pair { what, ..Pair::default() };
+        let store = vec![0; STORE_BYTES];
+        let Effort { repeats, time } = self.effort;
+        round(false);
+        round(true);
+        for _ in 0..repeats {
+            pair.baseline.add(sample(time, steps, || round(false)));
+            pair.library.add(sample(time, steps, || round(true)));
+            self.floor.add(sample(time / 10, 1, || {
+                black_box(or_of_words(black_box(&store)));
+            }));
+        }
+        pair
+    }
+}
+
+/// The time of one step: rounds are run until this much time has passed, at
+/// least one.
+fn sample(time: Duration, steps: usize, mut round: impl FnMut()) -> f64 {
+    let (start, mut rounds) = (Instant::now(), 0u32);
+    while rounds == 0 || start.elapsed() < time {
+        round();
+        rounds += 1;
+    }
+    start.elapsed().as_nanos() as f64 / (f64::from(rounds) * steps as f64)
+}
+
+/// One line of a long script through two drill programs, in turn.
+pub fn end_to_end(programs: [&str; 2], n: u8, lines: usize) -> io::Result<Pair> {
+    let script = scripts::settling(n, 0, lines);
+    let lines = script.iter().filter(|byte| **byte == b'\n').count();
+    let mut pair = Pair { what: format!("line through the program, n {n}"), ..Pair::default() };
+    let run = |program: &str| {
+        let start = Instant::now();
+        let answers = run_program(program, &script)?;
+        Ok::<_, io::Error>((start.elapsed().as_nanos() as f64 / lines as f64, answers))
+    };
+    for _ in 0..9 {
+        let (one, first) = run(programs[0])?;
+        let (two, second) = run(programs[1])?;
+        if first != second {
+            return Err(io::Error::other(format!("the programs part on a script for n {n}")));
+        }
+        pair.baseline.add(one);
+        pair.library.add(two);
+    }
+    Ok(pair)
+}
