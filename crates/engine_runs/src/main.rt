@@ -224,5 +224,7 @@ fn run(script: &[u8]) {
 // Lines 29 to 33: another start, a late table of the earlier one, and a table that comes twice.
 // Lines 34 to 36: node 2 starts too, and a node that is Fetching does not answer its Fetch.
 fn main() {
-    run(b"n00 n11 n22 w00 m01 m10 m01 m10 m10 c00 s00 m01 m02 m10 m20 m01 m10 m01 m10 m10 x11 x22 c00 s00 m01 m02 m10 m20 s00 m01 m20 m10 m10 c22 s22 m20 ");
+    run(
+        b"n00 n11 n22 w00 m01 m10 m01 m10 m10 c00 s00 m01 m02 m10 m20 m01 m10 m01 m10 m10 x11 x22 c00 s00 m01 m02 m10 m20 s00 m01 m20 m10 m10 c22 s22 m20 ",
+    );
 }
