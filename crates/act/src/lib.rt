@@ -3,12 +3,12 @@
 // gives what one definition of the crate `outcome` says.
 use carrying::carry_out;
 use delivering::deliver_message;
-use delivering::drop_message;
 use engine::crash;
 use engine::retry;
 use engine::start;
 use engine::write;
 pub use looking::look;
+use message_drop::drop_message;
 pub use outcome::Acted;
 pub use outcome::Seen;
 use outcome::refused;

@@ -1,4 +1,5 @@
 pub mod Again
+pub mod Offsets
 pub mod Shared
 pub mod Size
 pub mod Walk

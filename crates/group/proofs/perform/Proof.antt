@@ -50,7 +50,7 @@ use Rattle.protocol.specs.Table.{soundTable}
 use Rattle.outcome.specs.declared.Seen.{Seen}
 use Rattle.outcome.specs.Act.{lookAt}
 use Rattle.place.specs.AtPlace.{atPlace}
-use Rattle.place.proofs.Offsets.{nAt}
+use Rattle.table.proofs.Offsets.{nAt}
 use Rattle.table.proofs.Shared.{LentShared, lends-shared, shared-back}
 use Rattle.group.proofs.PutBack.{performed-calls}
 use Rattle.protocol.proofs.Event as K

@@ -59,10 +59,10 @@ use Rattle.protocol.proofs.Answer as An
 use Rattle.protocol.proofs.Answer.Laws as An′
 use Rattle.lending.proofs.Outcome as O
 use Rattle.lending.proofs.Outcome.Laws as O′
-use Rattle.group.proofs.set_up as called
-use Rattle.group.proofs.set_up.Symbol as called-def
-use Rattle.group.proofs.set_up.Symbol.{name as #called}
-use Rattle.group.proofs.set_up.Met as called-thm
+use Rattle.group_setup.proofs.set_up as called
+use Rattle.group_setup.proofs.set_up.Symbol as called-def
+use Rattle.group_setup.proofs.set_up.Symbol.{name as #called}
+use Rattle.group_setup.proofs.set_up.Met as called-thm
 use Rattle.lending.proofs.set_up_first.Key.{name as #own}
 use Rattle.lending.proofs.set_up_first as own
 use Rattle.lending.proofs.set_up_first.Statement as stated

@@ -50,7 +50,7 @@ use Rattle.outcome.specs.declared.Acted.{Acted}
 use Rattle.outcome.specs.declared.Seen.{Seen}
 use Rattle.outcome.specs.Act.{acted, handedBack}
 use Rattle.place.specs.AtPlace.{atPlace}
-use Rattle.place.proofs.Offsets.{placeAt, afterAnswer}
+use Rattle.table.proofs.Offsets.{placeAt, afterAnswer}
 use Rattle.table.proofs.Shared.{LentShared, lends-shared, shared-back}
 use Rattle.protocol.proofs.Event as K
 use Rattle.protocol.proofs.Event.Laws as K′

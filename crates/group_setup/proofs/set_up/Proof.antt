@@ -1,4 +1,4 @@
--- `group::set_up` meets its contract: a walk of its MIR, by hand. The store goes to `prepare` and the table to `fill_table`, both for good.
+-- `group_setup::set_up` meets its contract: a walk of its MIR, by hand. The store goes to `prepare` and the table to `fill_table`, both for good.
 -- All that the proof knows of the callees is that they meet their contracts.
 -- Assumes nothing.
 use mathlib.Core.Path.{_≡_, refl, ap}
@@ -44,27 +44,27 @@ use Rattle.protocol.specs.declared.Node.{Node}
 use Rattle.protocol.specs.declared.Answer.{Answer}
 use Rattle.protocol.specs.Operation as operation
 use Rattle.table_fill.specs.Fill.{freshTo}
-use Rattle.group.specs.declared.Prepared.{Prepared}
-use Rattle.group.specs.SetUp.{prepared, preparedStore}
-use Rattle.place.proofs.Offsets.{afterAnswer}
-use Rattle.group.proofs.SetUpLaws.{set-up-calls}
+use Rattle.group_setup.specs.declared.Prepared.{Prepared}
+use Rattle.group_setup.specs.SetUp.{prepared, preparedStore}
+use Rattle.table.proofs.Offsets.{afterAnswer}
+use Rattle.group_setup.proofs.SetUpLaws.{set-up-calls}
 use Rattle.protocol.proofs.Answer as An
 use Rattle.protocol.proofs.Answer.Laws as An′
 use Rattle.protocol.proofs.Node as T
-use Rattle.group.proofs.Prepared as O
-use Rattle.group.proofs.Prepared.Laws as O′
-use Rattle.group.proofs.prepare as prepare
-use Rattle.group.proofs.prepare.Symbol as prepare-def
-use Rattle.group.proofs.prepare.Symbol.{name as #prepare}
-use Rattle.group.proofs.prepare.Met as prepare-thm
+use Rattle.group_setup.proofs.Prepared as O
+use Rattle.group_setup.proofs.Prepared.Laws as O′
+use Rattle.group_setup.proofs.prepare as prepare
+use Rattle.group_setup.proofs.prepare.Symbol as prepare-def
+use Rattle.group_setup.proofs.prepare.Symbol.{name as #prepare}
+use Rattle.group_setup.proofs.prepare.Met as prepare-thm
 use Rattle.table_fill.proofs.fill_table as fill
 use Rattle.table_fill.proofs.fill_table.Symbol as fill-def
 use Rattle.table_fill.proofs.fill_table.Symbol.{name as #fill}
 use Rattle.table_fill.proofs.fill_table.Met as fill-thm
-use Rattle.group.proofs.set_up.Key.{name as #set-up}
-use Rattle.group.proofs.set_up as set-up
-use Rattle.group.proofs.set_up.Statement as stated
-use Rattle.group.proofs.set_up.Code as code
+use Rattle.group_setup.proofs.set_up.Key.{name as #set-up}
+use Rattle.group_setup.proofs.set_up as set-up
+use Rattle.group_setup.proofs.set_up.Statement as stated
+use Rattle.group_setup.proofs.set_up.Code as code
 
 abbrev stayed : Stays (set-up.ended .signature .params) (set-up.ended .kept)
 stayed = (gave-slice (0 ∷ []) tt (plain (λ _. T.the-row)), (gave-slice (1 ∷ []) tt (plain (λ _. u8)), (stay-none (λ _. u64) yes, tt)))
@@ -197,5 +197,5 @@ set-up-spec 𝓤 H 𝓜 𝓖 𝓡 =
     entered 𝓤 H (tripleOf 𝓤 H (𝓖 .A) set-up.signature (set-up.spec 𝓤 H (𝓖 .A) (𝓜 .mem) (𝓡 .run)))
     (tables 𝓤 H 𝓜 𝓡 code.env .C) (tables 𝓤 H 𝓜 𝓡 code.env .Λ) #set-up code.function (code.unfolded 𝓤 H 𝓜 𝓡)
     (set-up-meets 𝓤 H (𝓖 .A) (givenOf 𝓤 H 𝓜 𝓖) (𝓜 .mem) (𝓡 .run) (tablesOf 𝓤 H 𝓜 (tables 𝓤 H 𝓜 𝓡 code.env))
-    (cited 𝓤 H (Prepare 𝓤 H (𝓖 .A) (𝓜 .mem) (𝓡 .run)) 𝓜 𝓡 code.env #prepare prepare-def.routine code.calls-group·prepare (prepare-thm.met 𝓤 H 𝓜 𝓖 𝓡))
+    (cited 𝓤 H (Prepare 𝓤 H (𝓖 .A) (𝓜 .mem) (𝓡 .run)) 𝓜 𝓡 code.env #prepare prepare-def.routine code.calls-group-setup·prepare (prepare-thm.met 𝓤 H 𝓜 𝓖 𝓡))
     (cited 𝓤 H (Fill 𝓤 H (𝓖 .A) (𝓜 .mem) (𝓡 .run)) 𝓜 𝓡 code.env #fill fill-def.routine code.calls-table-fill·fill-table (fill-thm.met 𝓤 H 𝓜 𝓖 𝓡)))

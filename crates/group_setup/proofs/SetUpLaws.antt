@@ -24,11 +24,11 @@ use Rattle.protocol.specs.declared.Refusal.the-variants.{GroupSize, StoreLength
 use Rattle.protocol.proofs.InView.{size-fits}
 use Rattle.table_fill.specs.Fill.{freshTo}
 use Rattle.table_fill.specs.Laws.{fresh-all}
-use Rattle.group.specs.SetUp.{notPrepared, prepared, preparedStore}
-use Rattle.group.specs.declared.Prepared.{Prepared}
+use Rattle.group_setup.specs.SetUp.{notPrepared, prepared, preparedStore}
+use Rattle.group_setup.specs.declared.Prepared.{Prepared}
 
 module _ (n nodes : ℕ) (store : List ℕ) where
-  -- what `group::prepare` ensures
+  -- what `group_setup::prepare` ensures
   abbrev Prepares : Prepared → List ℕ → Type 0
   Prepares p s = (p ≡ prepared n nodes store) × (s ≡ preparedStore n nodes store)
 
@@ -85,7 +85,7 @@ module _ (n : ℕ) (table : List Node) (store : List ℕ) where
   filled-at true false p q = filled-length p q
   filled-at true true p q = filled-right p q
 
-  -- the calls of `group::set_up` one after the other, each with what it ensures
+  -- the calls of `group_setup::set_up` one after the other, each with what it ensures
   pub set-up-calls : (p : Prepared) (l : List Node) (m : List ℕ) → (p ≡ prepared n (length table) store) × (m ≡ preparedStore n (length table) store) → l ≡ freshTo (p .fresh) table (p .fresh)
       → (p .answer ≡ whole.setUp n table store .answer) × ((l ≡ whole.setUp n table store .table) × (m ≡ whole.setUp n table store .store))
   set-up-calls p l m e₀ e₁ =

@@ -1,11 +1,11 @@
--- `delivering::drop_message` meets its contract.
+-- `message_drop::drop_message` meets its contract.
 use Rattle.outcome.proofs.Laws.{dropped-none, dropped-some}
 use Rattle.outcome.specs.Act.{Outcome, handedBack}
 use denote.Ref.{now}
 use mathlib.Core.Path.{_≡_, refl, sym, ap, _∙_}
 use borrow.Author.Needs.{needs}
-use Rattle.delivering.proofs.drop_message.Statement.{statement}
-use Rattle.delivering.proofs.drop_message.Tie as tie
+use Rattle.message_drop.proofs.drop_message.Statement.{statement}
+use Rattle.message_drop.proofs.drop_message.Tie as tie
 
 message-requires : tie.Need-message-requires
 message-requires c κs = search needs

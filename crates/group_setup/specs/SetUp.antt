@@ -10,7 +10,7 @@ use Rattle.store.specs.Change.{emptyRecords}
 use Rattle.protocol.specs.declared.Answer.the-variants as answer
 use Rattle.protocol.specs.declared.Refusal.{Refusal}
 use Rattle.protocol.specs.declared.Refusal.the-variants.{GroupSize, StoreLength}
-use Rattle.group.specs.declared.Prepared.{Prepared}
+use Rattle.group_setup.specs.declared.Prepared.{Prepared}
 
 abbrev pub notPrepared : Refusal → Prepared
 notPrepared why = record { answer = answer.Refused why; fresh = 0 }

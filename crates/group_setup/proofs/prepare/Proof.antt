@@ -1,11 +1,11 @@
--- `group::prepare` meets its contract.
-use Rattle.group.proofs.SetUpLaws.{size-wrong, nodes-wrong, length-wrong, all-right}
+-- `group_setup::prepare` meets its contract.
+use Rattle.group_setup.proofs.SetUpLaws.{size-wrong, nodes-wrong, length-wrong, all-right}
 use borrow.Author.Tests.{not-true, not-false}
 use denote.Ref.{now}
 use mathlib.Core.Path.{_≡_, refl, sym, ap, _∙_}
 use borrow.Author.Needs.{needs}
-use Rattle.group.proofs.prepare.Statement.{statement}
-use Rattle.group.proofs.prepare.Tie as tie
+use Rattle.group_setup.proofs.prepare.Statement.{statement}
+use Rattle.group_setup.proofs.prepare.Tie as tie
 
 valid-size-requires : tie.Need-valid-size-requires
 valid-size-requires c κs = search needs

@@ -1,0 +1,25 @@
+// Drop of the message in a record. Everything is proved, the function has no `requires`, and it gives what one definition
+// of the crate `outcome` says.
+use outcome::Acted;
+use outcome::refused;
+use protocol::Answer;
+use protocol::Node;
+use protocol::Refusal;
+use record::Reading;
+ghost use mathlib.Core.Path.{_≡_};
+ghost use Rattle.store.specs.Sound.{messageAt};
+ghost use Rattle.outcome.specs.Act.{handedBack, dropped};
+
+// Drop of the message in record `r`.
+pub fn drop_message(s: &mut [u8], node: Node, r: u64) -> Acted
+    ensures { λ a. ⌜ (a ≡ handedBack (dropped (messageAt (now (s .entry)) r) node (now (s .entry)) r)) × (now (s .exit) ≡ dropped (messageAt (now (s .entry)) r) node (now (s .entry)) r .store) ⌝ }
+{
+    let Reading::Found(envelope) = inbox::message(s, r) else {
+        return refused(Refusal::NoMessage, node);
+    };
+    dropping::drop_message(s, envelope.addressee, r);
+    Acted {
+        answer: Answer::Ok,
+        node: node,
+    }
+}
