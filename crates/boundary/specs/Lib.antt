@@ -1,3 +1,5 @@
 pub mod Script
 pub mod ScriptLaws
 pub mod Sound
+pub mod Records
+pub mod RecordLaws

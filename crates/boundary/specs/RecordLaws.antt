@@ -1,0 +1,73 @@
+-- Laws of one record at the boundary: each way out of the two calls.
+use Prim.Native.Nat.{ℕ, _+_, _*_, _≤_, _<_}
+use native.Mathlib.Omega.{arith}
+use mathlib.Core.Path.{_≡_, ap, _∙_}
+use mathlib.Core.Bool.{true, false}
+use mathlib.Core.List.{List}
+use lib.ListN.{length, length-append}
+use borrow.Author.Tests.{eq-eqb, ne-eqb, le-leb, lt-leb}
+use Rattle.item.specs.Maxima.{maxNodes}
+use Rattle.item.specs.declared.Item.{Item}
+use Rattle.message.specs.declared.Envelope.{Envelope}
+use Rattle.endian.specs.Part.{withPart}
+use Rattle.endian.specs.PartLaws.{with-all}
+use Rattle.kinds.specs.Kind.{fieldsOf}
+use Rattle.kinds.specs.declared.Fields.{Fields}
+use Rattle.layout.specs.Layout.{rowsAt, rowsOf, nextOf}
+use Rattle.layout.specs.LayoutLaws.{length-items}
+use Rattle.numbers.specs.Numbers.{numberCount, fieldNumbers, rowNumbers, numbersOf, rowsFrom, stated, numbersAs, recordNumbers, bytesAs, numbersBytes, isFound, isStated}
+use Rattle.numbers.specs.NumberLaws.{length-field-numbers, length-row-numbers}
+use Rattle.numbers.specs.declared.Stated.the-variants.{Message, Refused}
+use Rattle.record.specs.Layout.{recordSize, recordOf, withRecord}
+use Rattle.record.specs.Record.{recordBytes, readRecord}
+use Rattle.record.specs.declared.Reading.the-variants.{Found, Fault}
+use Rattle.boundary.specs.Records.{mayRead, numbersRead, mayWrite, bytesWritten}
+
+length-numbers : (next : ℕ) (f : Fields) (rows : List Item) → length rows ≡ maxNodes → length (numbersOf next f rows) ≡ numberCount
+unfolding numbersOf
+length-numbers next f rows l =
+    let a = length-append (fieldNumbers next f) (rowNumbers rows) in
+    omega (arith, a, length-field-numbers next f, length-row-numbers rows, l)
+
+length-rows-of : (r : List ℕ) → length (rowsOf r) ≡ maxNodes
+unfolding rowsOf
+length-rows-of r = length-items maxNodes r rowsAt
+
+module _ (s : List ℕ) (i n : ℕ) (ns : List ℕ) where
+  -- ---- reading
+
+  pub read-short : (length ns ≡ numberCount → ⊥) → (false ≡ mayRead s i n ns) × (ns ≡ numbersRead s i n ns)
+  unfolding mayRead numbersRead
+  read-short h = (rw (ne-eqb (length ns) numberCount h), rw (ne-eqb (length ns) numberCount h))
+
+  pub read-fault : length ns ≡ numberCount → readRecord n (recordOf s i) ≡ Fault → (false ≡ mayRead s i n ns) × (ns ≡ numbersRead s i n ns)
+  unfolding mayRead numbersRead isFound
+  read-fault l q = (rw (eq-eqb (length ns) numberCount l, q), rw (eq-eqb (length ns) numberCount l, q))
+
+  pub read-message : {e : Envelope} {f : Fields} (next : ℕ) (rows : List Item) → length ns ≡ numberCount → readRecord n (recordOf s i) ≡ Found e
+      → next ≡ nextOf (recordOf s i) → f ≡ fieldsOf e → rows ≡ rowsOf (recordOf s i)
+      → (true ≡ mayRead s i n ns) × (withPart numberCount ns 0 (numbersOf next f rows) ≡ numbersRead s i n ns)
+  unfolding mayRead numbersRead isFound recordNumbers numbersAs
+  read-message {e} {f} next rows l q en ef er = (
+    rw (eq-eqb (length ns) numberCount l, q),
+    with-all numberCount ns (numbersOf next f rows) l (length-numbers next f rows (ap length er ∙ length-rows-of (recordOf s i)))
+        ∙ rw (en, ef, er, eq-eqb (length ns) numberCount l, q),
+  )
+
+  -- ---- writing
+
+  pub write-none : length s < i * recordSize + recordSize → (false ≡ mayWrite s i n ns) × (s ≡ bytesWritten s i n ns)
+  unfolding mayWrite bytesWritten
+  write-none h = (rw (lt-leb (i * recordSize + recordSize) (length s) h), rw (lt-leb (i * recordSize + recordSize) (length s) h))
+
+  pub write-refused : i * recordSize + recordSize ≤ length s → stated n ns ≡ Refused → (false ≡ mayWrite s i n ns) × (s ≡ bytesWritten s i n ns)
+  unfolding mayWrite bytesWritten isStated
+  write-refused h q = (rw (le-leb (i * recordSize + recordSize) (length s) h, q), rw (le-leb (i * recordSize + recordSize) (length s) h, q))
+
+  pub write-message : {next : ℕ} {e : Envelope} (rows : List Item) → i * recordSize + recordSize ≤ length s → stated n ns ≡ Message next e → rows ≡ rowsFrom ns
+      → (true ≡ mayWrite s i n ns) × (withRecord s i (recordBytes n next e rows) ≡ bytesWritten s i n ns)
+  unfolding mayWrite bytesWritten isStated numbersBytes bytesAs
+  write-message rows h q er = (
+    rw (le-leb (i * recordSize + recordSize) (length s) h, q),
+    rw (er, le-leb (i * recordSize + recordSize) (length s) h, q),
+  )
