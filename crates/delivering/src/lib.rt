@@ -18,7 +18,7 @@ pub fn deliver_message(s: &mut [u8], node: Node, free: usize, r: u64) -> Acted
     let Reading::Found(envelope) = inbox::message(s, r) else {
         return refused(Refusal::NoMessage, node);
     };
-    let items = codec::rows(s, r as usize);
+    let items = record_rows::rows(s, r as usize);
     let step = deliver(node, envelope, items);
     carry_out(s, node, free, envelope.sender, step)
 }

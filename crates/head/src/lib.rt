@@ -33,7 +33,7 @@ fn wide(x: u8) -> usize
 pub fn first_free(s: &[u8]) -> usize
     ensures { λ r. ⌜ r ≡ firstFree (recordsOf (now (s .entry))) ⌝ }
 {
-    endian::read_u16(s, FREE_AT) as usize
+    endian_read::read_u16(s, FREE_AT) as usize
 }
 
 // The size of the group.
@@ -53,7 +53,7 @@ pub fn first_of(s: &[u8], k: usize) -> usize
     if INBOXES <= k {
         return 0;
     }
-    endian::read_u16(s, INBOXES_AT + k * INBOX_SIZE) as usize
+    endian_read::read_u16(s, INBOXES_AT + k * INBOX_SIZE) as usize
 }
 
 // `i` becomes the first free record.

@@ -5,7 +5,7 @@ ghost use mathlib.Core.Path.{_≡_};
 ghost use Rattle.store.specs.Sound.{messageAt};
 
 // The message in record `r`, or a fault where there is none. Of a sound store exactly the records on inbox chains have
-// one. Its rows are `codec::rows`.
+// one. Its rows are `record_rows::rows`.
 pub fn message(s: &[u8], r: u64) -> Reading
     ensures { λ a. ⌜ a ≡ messageAt (now (s .entry)) r ⌝ }
 {
@@ -15,5 +15,5 @@ pub fn message(s: &[u8], r: u64) -> Reading
     if r == 0 {
         return Reading::Fault;
     }
-    codec::read(s, r as usize, head::group_size(s))
+    record_read::read(s, r as usize, head::group_size(s))
 }

@@ -2,7 +2,9 @@
 // no public function has a `requires`, and each gives what one definition of the crate `record` says. A record that does
 // not lie whole within the slice has no next, is not zero and is not written, whatever number is handed in.
 ghost use mathlib.Core.Path.{_≡_};
-ghost use Rattle.record.specs.Layout.{recordOf, withRecord, nextOf};
+ghost use lib.ListN.{length, drop};
+ghost use Rattle.endian.specs.Zero.{allZero};
+ghost use Rattle.record.specs.Layout.{recordSize, kindAt, recordOf, withRecord, nextOf};
 ghost use Rattle.record.specs.Record.{withNext, noRecord, zeroAfterNext};
 
 // The record after record `i` on its chain, 0 at the end.
@@ -13,7 +15,7 @@ pub fn next(s: &[u8], i: usize) -> usize
         return 0;
     }
     let a = i * record::SIZE;
-    endian::read_u16(&s[a..a + record::SIZE], layout::NEXT_AT) as usize
+    endian_read::read_u16(&s[a..a + record::SIZE], layout::NEXT_AT) as usize
 }
 
 // `next` comes after record `i`, as far as two bytes hold it; no other byte changes.
@@ -36,7 +38,23 @@ pub fn clear(s: &mut [u8], i: usize)
         return;
     }
     let a = i * record::SIZE;
-    endian_write::clear(&mut s[a..a + record::SIZE]);
+    zero_bytes::clear(&mut s[a..a + record::SIZE]);
+}
+
+// Whether a record is zero after next: its first eight bytes are no more than next, the next eight are 0, and what is left is
+// a fixed number of bytes, which the compiler tests in whole blocks.
+fn blank(r: &[u8]) -> bool
+    requires { ⌜ length (now r) ≡ recordSize ⌝ }
+    ensures { λ b. ⌜ b ≡ allZero (drop kindAt (now (r .entry))) ⌝ }
+{
+    let next = endian_read::read_u16(r, layout::NEXT_AT) as u64;
+    if endian_read::read_u64(r, layout::NEXT_AT) != next {
+        return false;
+    }
+    if endian_read::read_u64(r, layout::OTHER_AT) != 0 {
+        return false;
+    }
+    zero_bytes::is_zero(&r[layout::ITEM_AT..])
 }
 
 // Whether record `i` is zero after next, as a free one is.
@@ -47,5 +65,5 @@ pub fn zero_after_next(s: &[u8], i: usize) -> bool
         return false;
     }
     let a = i * record::SIZE;
-    endian::is_zero(&s[a + layout::KIND_AT..a + record::SIZE])
+    blank(&s[a..a + record::SIZE])
 }

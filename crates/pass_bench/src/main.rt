@@ -9,7 +9,7 @@ fn pass(s: &[u8]) -> usize {
     let mut full: usize = 0;
     let mut left = TURNS;
     while 0 < left {
-        if !endian::is_zero(s) {
+        if !zero_bytes::is_zero(s) {
             full = std::num::wrapping_add_usize(full, 1);
         }
         left -= 1;

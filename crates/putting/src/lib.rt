@@ -52,7 +52,7 @@ fn take_free(s: &mut [u8], envelope: Envelope, rows: [Item; item::MAX_NODES])
     let i = head::first_free(s);
     let after = links::next(s, i);
     head::set_first_free(s, after);
-    codec::write(s, i, n, 0, envelope, rows);
+    record_write::write(s, i, n, 0, envelope, rows);
 }
 
 // The first free record takes the message, and stands at the end of the addressee's inbox. Where no record is free

@@ -1,6 +1,6 @@
-// One record of the message store: its definitions, and the theorems that reading and writing undo each other. The crate
-// `codec` reads and writes a record by them, and `links` its link. Everything is proved, and no public function has a
-// `requires`.
+// One record of the message store: its definitions, and the theorems that reading and writing undo each other. By them the
+// crates `record_read` and `record_rows` read a record, `record_write` writes one, and `links` keeps its link. Everything
+// is proved, and no public function has a `requires`.
 use message::Envelope;
 ghost use Rattle.record.specs.RoundTrip.{ReadsBack, WritesBack, Differ};
 

@@ -59,7 +59,7 @@ fn put(s: &mut [u8], i: usize, sender: usize, addressee: usize, message: Message
         incarnation: Incarnation(INCARNATION),
         message: message,
     };
-    codec::write(s, i, NODES, NEXT, envelope, rows());
+    record_write::write(s, i, NODES, NEXT, envelope, rows());
 }
 
 fn fill(s: &mut [u8]) {

@@ -13,7 +13,7 @@ fn link_free(s: &mut [u8])
     requires { ⌜ length (now s) ≡ recordCount * recordSize ⌝ }
     ensures { λ _. ⌜ recordsOf (now (s .exit)) ≡ linkedRecords recordCount ⌝ }
 {
-    endian_write::clear(s);
+    zero_bytes::clear(s);
     let mut i = 1;
     while i < store::RECORDS - 1 {
         links::set_next(s, i, i + 1);

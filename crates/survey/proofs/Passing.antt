@@ -1,23 +1,23 @@
 -- A turn of each loop of the survey, and where it stops: what is left to do gives the answer.
 use Prim.Native.Nat.{ℕ, zero, suc, _+_, _-_, _*_, _<_}
 use mathlib.Core.Path.{_≡_, refl, sym, ap, _∙_}
-use mathlib.Core.Bool.{Bool, true, false, cond, _&&_}
-use mathlib.Core.List.{List, [], _∷_}
+use mathlib.Core.Bool.{Bool, true, false, cond, _&&_, and-assoc, and-true}
+use mathlib.Core.List.{List, [], _∷_, _++_}
 use native.Mathlib.Omega.{arith}
 use native.Mathlib.Numerals.{add-one}
-use lib.ListN.{length, drop, getD}
-use lib.Seq.{drop-cons}
+use lib.ListN.{length, take, getD}
+use lib.Seq.{take-suc}
 use Rattle.item.specs.Maxima.{validSize}
 use Rattle.record.specs.Layout.{recordSize}
 use Rattle.store.specs.declared.Walked.{Walked}
 use Rattle.store.specs.declared.Survey.{Survey}
-use Rattle.store.specs.declared.chain.Chain.the-variants.{Inbox}
+use Rattle.store.specs.declared.chain.Chain.the-variants.{Free, Inbox}
 use Rattle.store.specs.Records.{recordCount, recordsOf}
 use Rattle.store.specs.Joined.{records-count}
 use Rattle.store.specs.Lent.{right, followed-in}
-use Rattle.store.specs.Head.{groupSize, firstOf, headZero}
+use Rattle.store.specs.Head.{groupSize, firstFree, firstOf, headZero}
 use Rattle.store.specs.Chain.{walk}
-use Rattle.store.specs.Sound.{belongsTo, belongsOn, followed, walkInboxes, walkFree, allPassed, allOnChains, soundRecords, freeCount, unsound, surveyOf, survey}
+use Rattle.store.specs.Sound.{belongsTo, belongsOn, followed, walkInboxes, walkFree, headPassed, allPassed, allOnChains, soundRecords, freeCount, unsound, surveyOf, survey}
 
 -- ---- the inboxes, one after the other
 
@@ -45,13 +45,22 @@ inboxes-turn n s long k first w v l e ef ev =
 
 -- ---- every record passed
 
-pub passed-turn : (ps : List Bool) (i : ℕ) → i < length ps → getD ps i false ≡ true → allPassed (drop i ps) ≡ allPassed (drop (i + 1) ps)
+all-passed-append : (a b : List Bool) → allPassed (a ++ b) ≡ allPassed a && allPassed b
 unfolding allPassed
-passed-turn ps i h e = rw (drop-cons ps i false h, e, add-one i)
+all-passed-append [] b = refl
+all-passed-append (x ∷ a) b = rw (all-passed-append a b) (sym (and-assoc x (allPassed a) (allPassed b)))
 
-pub passed-stop : (ps : List Bool) (i : ℕ) → i < length ps → getD ps i false ≡ false → allPassed (drop i ps) ≡ false
+-- one record more, as a loop joins them
+pub passed-more : (ps : List Bool) (i : ℕ) (all : Bool) → i < length ps → all ≡ allPassed (take i ps) → all && getD ps i false ≡ allPassed (take (i + 1) ps)
 unfolding allPassed
-passed-stop ps i h e = rw (drop-cons ps i false h, e)
+passed-more ps i all h e = rw (e, add-one, take-suc ps i false h, all-passed-append (take i ps) (getD ps i false ∷ []), and-true (getD ps i false))
+
+-- ---- the free chain
+
+pub free-is : (s : List ℕ) → length s ≡ recordCount * recordSize → (first : ℕ) (passed : List Bool) (w : Walked) → first ≡ firstFree (recordsOf s)
+    → passed ≡ headPassed recordCount → w ≡ followed Free 0 s first passed → w ≡ walkFree (recordsOf s)
+unfolding walkFree belongsOn
+free-is s long first passed w ef ep ew = rw (ew, followed-in s long Free 0 first passed, ep, ef, records-count s)
 
 -- ---- what one pass finds
 

@@ -2,15 +2,15 @@
 // passed. Everything is proved, the public function has no `requires`, and it gives what one definition of the crate
 // `store` says.
 use store::Survey;
-use store::Walked;
-use store::chain::Chain;
+use walk::Followed;
 ghost use mathlib.Core.Path.{_≡_};
 ghost use Prim.Native.Nat.{_*_};
 ghost use lib.ListN.{length};
 ghost use Rattle.record.specs.Layout.{recordSize};
 ghost use Rattle.store.specs.Records.{recordCount, recordsOf};
 ghost use Rattle.store.specs.Head.{headZero};
-ghost use Rattle.store.specs.Sound.{walkInboxes, walkFree, allPassed, headPassed, unsound, survey};
+ghost use Rattle.store.specs.Chain.{walked};
+ghost use Rattle.store.specs.Sound.{walkInboxes, allPassed, headPassed, unsound, survey};
 
 // Whether the head is zero where no field of a group of its size stands.
 fn head_zero(s: &[u8]) -> bool
@@ -25,7 +25,7 @@ fn head_zero(s: &[u8]) -> bool
         return true;
     }
     let from = head::INBOXES_AT + n * head::INBOX_SIZE;
-    endian::is_zero(&s[from..record::SIZE])
+    zero_bytes::is_zero(&s[from..record::SIZE])
 }
 
 // Before any chain is followed only the head counts as passed.
@@ -37,47 +37,35 @@ fn head_passed() -> [bool; store::RECORDS]
     passed
 }
 
-// The free chain.
-fn follow_free(s: &[u8], n: usize) -> Walked
-    requires { ⌜ length (now s) ≡ recordCount * recordSize ⌝ }
-    ensures { λ w. ⌜ w ≡ walkFree (recordsOf (now (s .entry))) ⌝ }
-{
-    let first = head::first_free(s);
-    let passed = head_passed();
-    walk::follow(s, first, Chain::Free, n, passed)
-}
-
 // The inboxes, one after the other, as long as all is well.
-fn follow_inboxes(s: &[u8], n: usize, free: Walked) -> Walked
+fn follow_inboxes(s: &[u8], n: usize, free: Followed, passed: &mut [bool]) -> Followed
     requires { ⌜ length (now s) ≡ recordCount * recordSize ⌝ }
-    ensures { λ w. ⌜ w ≡ walkInboxes n n (recordsOf (now (s .entry))) 0 free ⌝ }
+    ensures { λ r. ⌜ walked (r .ok) (now (passed .exit)) (r .count) ≡ walkInboxes n n (recordsOf (now (s .entry))) 0 (walked (free .ok) (now (passed .entry)) (free .count)) ⌝ }
 {
-    let mut walked = free;
+    let mut last = free;
     let mut k = 0;
     while k < n {
-        if !walked.ok {
-            return walked;
+        if !last.ok {
+            return last;
         }
-        let passed = walked.passed;
         let first = head::first_of(s, k);
-        walked = walk::follow(s, first, Chain::Inbox(k), n, passed);
+        last = walk::follow_inbox(s, first, n, k, passed);
         k += 1;
     }
-    walked
+    last
 }
 
-// Whether every record was passed.
-fn all_passed(passed: [bool; store::RECORDS]) -> bool
-    ensures { λ r. ⌜ r ≡ allPassed passed ⌝ }
+// Whether every record was passed. All are looked at, by one loop without a way out, which the compiler widens.
+fn all_passed(passed: &[bool]) -> bool
+    ensures { λ r. ⌜ r ≡ allPassed (now (passed .entry)) ⌝ }
 {
+    let mut all = true;
     let mut i = 0;
-    while i < store::RECORDS {
-        if !passed[i] {
-            return false;
-        }
+    while i < passed.len() {
+        all = all & passed[i];
         i += 1;
     }
-    true
+    all
 }
 
 // What is found of bytes that are not a sound store.
@@ -105,13 +93,14 @@ pub fn of(s: &[u8]) -> Survey
     if !head_zero(s) {
         return unsound();
     }
-    let free = follow_free(s, n);
-    let walked = follow_inboxes(s, n, free);
-    if !walked.ok {
+    let mut passed = head_passed();
+    let first = head::first_free(s);
+    let free = walk::follow_free(s, first, &mut passed);
+    let last = follow_inboxes(s, n, free, &mut passed);
+    if !last.ok {
         return unsound();
     }
-    let passed = walked.passed;
-    if !all_passed(passed) {
+    if !all_passed(&passed) {
         return unsound();
     }
     Survey {

@@ -14,12 +14,25 @@ use Rattle.record.specs.Layout.{recordSize, recordOf, nextOf}
 use Rattle.store.specs.Records.{recordCount, recordsOf}
 use Rattle.store.specs.Lent.{record-in}
 use Rattle.store.specs.Chain.{nextIn, walked, walk}
+use Rattle.store.specs.Sound.{belongsTo, belongsOn}
+use Rattle.store.specs.declared.chain.Chain.the-variants.{Free, Inbox}
+use Rattle.record.specs.Record.{zeroAfterNext}
 
 -- within a list no default is read
 pub getD-within : {A : Type 0} (l : List A) (i : ℕ) (a b : A) → i < length l → getD l i a ≡ getD l i b
 getD-within [] i a b h = absurd (not-suc-le-zero h)
 getD-within (x ∷ l) zero a b h = refl
 getD-within (x ∷ l) (suc i) a b h = getD-within l i a b (le-of-suc-le-suc h)
+
+-- ---- what belongs on a chain
+
+pub on-free : (n : ℕ) (r : List ℕ) → belongsOn Free n r ≡ zeroAfterNext r
+unfolding belongsOn
+on-free n r = refl
+
+pub on-inbox : (owner n : ℕ) (r : List ℕ) → belongsOn (Inbox owner) n r ≡ belongsTo n owner r
+unfolding belongsOn
+on-inbox owner n r = refl
 
 -- ---- one chain
 

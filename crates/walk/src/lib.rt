@@ -1,17 +1,26 @@
-// One chain of a store followed from its first record on, each record judged as it is passed. Everything is proved, the
-// public function has no `requires`, and it gives what one definition of the crate `store` says.
+// One chain of a store followed from its first record on, each record judged as it is passed. Everything is proved, no public
+// function has a `requires`, and each gives what one definition of the crate `store` says. In bytes that are not as long as
+// a store there is no chain. The marks of the records passed are lent: a copy of them would take longer than a short chain.
 use record::Reading;
-use store::Walked;
-use store::chain::Chain;
 ghost use mathlib.Core.Path.{_≡_};
 ghost use Rattle.record.specs.Layout.{recordOf};
-ghost use Rattle.store.specs.Sound.{addressedTo, belongsOn, followed};
+ghost use Rattle.store.specs.Chain.{walked};
+ghost use Rattle.store.specs.Sound.{belongsTo, followed};
+ghost use Rattle.store.specs.declared.chain.Chain.the-variants.{Free, Inbox};
 
-// Whether what was read is a message to `owner` from another node of a group of `n`.
-fn addressed_to(reading: Reading, n: usize, owner: usize) -> bool
-    ensures { λ r. ⌜ r ≡ addressedTo n owner reading ⌝ }
+// What a chain comes to.
+pub struct Followed {
+    // It met no record twice, none that is not there, and none that does not belong on it.
+    pub ok: bool,
+    // How many records it has.
+    pub count: usize,
+}
+
+// Whether record `i` is a message to `owner` from another node of a group of `n`.
+fn belongs_to(s: &[u8], i: usize, n: usize, owner: usize) -> bool
+    ensures { λ r. ⌜ r ≡ belongsTo n owner (recordOf (now (s .entry)) i) ⌝ }
 {
-    let Reading::Found(envelope) = reading else {
+    let Reading::Found(envelope) = record_read::read(s, i, n) else {
         return false;
     };
     if n <= envelope.sender {
@@ -23,60 +32,74 @@ fn addressed_to(reading: Reading, n: usize, owner: usize) -> bool
     envelope.addressee == owner
 }
 
-// Whether record `i` belongs on this chain in a group of `n`.
-fn belongs(s: &[u8], i: usize, chain: Chain, n: usize) -> bool
-    ensures { λ r. ⌜ r ≡ belongsOn chain n (recordOf (now (s .entry)) i) ⌝ }
-{
-    match chain {
-        Chain::Free => links::zero_after_next(s, i),
-        Chain::Inbox(owner) => {
-            let reading = codec::read(s, i, n);
-            addressed_to(reading, n, owner)
-        }
-    }
-}
-
-// The chain from record `first` is followed to its end, or to a record that is not there, was passed before or does not
-// belong on it. In bytes that are not as long as a store there is none.
-pub fn follow(
-    s: &[u8],
-    first: usize,
-    chain: Chain,
-    n: usize,
-    earlier: [bool; store::RECORDS],
-) -> Walked
-    ensures { λ w. ⌜ w ≡ followed chain n (now (s .entry)) first earlier ⌝ }
+// The free chain from record `first` is followed to its end, or to a record that is not there, was passed before or is not
+// zero after next.
+pub fn follow_free(s: &[u8], first: usize, passed: &mut [bool]) -> Followed
+    ensures { λ f. ⌜ walked (f .ok) (now (passed .exit)) (f .count) ≡ followed Free 0 (now (s .entry)) first (now (passed .entry)) ⌝ }
 {
     if s.len() != store::LENGTH {
-        return Walked {
+        return Followed {
             ok: false,
-            passed: earlier,
             count: 0,
         };
     }
-    let mut passed = earlier;
     let mut i = first;
     let mut count = 0;
     while count < store::RECORDS {
         if i == 0 {
             break;
         }
-        if store::RECORDS <= i {
+        if passed.len() <= i {
             break;
         }
         if passed[i] {
             break;
         }
-        if !belongs(s, i, chain, n) {
+        if !links::zero_after_next(s, i) {
             break;
         }
         passed[i] = true;
         i = links::next(s, i);
         count += 1;
     }
-    Walked {
+    Followed {
         ok: i == 0,
-        passed: passed,
+        count: count,
+    }
+}
+
+// The inbox of `owner` in a group of `n` from record `first` is followed to its end, or to a record that is not there, was
+// passed before or is no message to `owner` from another node.
+pub fn follow_inbox(s: &[u8], first: usize, n: usize, owner: usize, passed: &mut [bool]) -> Followed
+    ensures { λ f. ⌜ walked (f .ok) (now (passed .exit)) (f .count) ≡ followed (Inbox owner) n (now (s .entry)) first (now (passed .entry)) ⌝ }
+{
+    if s.len() != store::LENGTH {
+        return Followed {
+            ok: false,
+            count: 0,
+        };
+    }
+    let mut r = first;
+    let mut count = 0;
+    while count < store::RECORDS {
+        if r == 0 {
+            break;
+        }
+        if passed.len() <= r {
+            break;
+        }
+        if passed[r] {
+            break;
+        }
+        if !belongs_to(s, r, n, owner) {
+            break;
+        }
+        passed[r] = true;
+        r = links::next(s, r);
+        count += 1;
+    }
+    Followed {
+        ok: r == 0,
         count: count,
     }
 }

@@ -1,34 +1,28 @@
--- `survey::all_passed` meets its contract. The invariant: what is left to look at gives the answer.
-use borrow.Author.Tests.{not-true, not-false}
-use Rattle.survey.proofs.Passing.{passed-turn, passed-stop}
-use Rattle.store.specs.Sound.{allPassed}
-use Rattle.store.specs.Records.{recordCount}
-use mathlib.Core.Bool.{Bool}
-use mathlib.Core.List.{List}
-use lib.ListN.{length, drop, drop-of-length-le}
-use denote.Ref.{now}
+-- `survey::all_passed` meets its contract. The invariant: what is joined so far says of the records looked at whether all were passed.
+use Prim.Native.Nat.{_≤_, _-_}
+use mathlib.Core.Path.{_≡_, refl, ap, _∙_}
 use native.Mathlib.Omega.{arith}
-use mathlib.Core.Path.{_≡_, refl, sym, ap, _∙_}
-use Prim.Native.Nat.{ℕ, _+_, _-_, _*_, _≤_, _<_}
+use lib.ListN.{length, take}
+use lib.Seq.{take-all}
+use denote.Ref.{now}
+use Rattle.store.specs.Sound.{allPassed}
+use Rattle.survey.proofs.Passing.{passed-more}
 use borrow.Author.Needs.{needs}
 use Rattle.survey.proofs.all_passed.Statement.{statement}
 use Rattle.survey.proofs.all_passed.Tie as tie
 
 abbrev Inv-loop : tie.InvT-loop
-Inv-loop passed i₀ i = (i ≤ recordCount) × (length passed ≡ recordCount) × (allPassed (drop i passed) ≡ allPassed passed)
+Inv-loop passed all₀ i₀ all i = (i ≤ length passed) × (all ≡ allPassed (take i passed))
 
 abbrev μ-loop : tie.MeasureT-loop
-μ-loop passed i₀ i = recordCount - i
+μ-loop passed all₀ i₀ all i = length passed - i
 
 loop-holds : tie.Need-loop-holds Inv-loop μ-loop
 unfolding allPassed
-loop-holds c = let l : length (c .args .t1) ≡ 240 = search needs in (omega arith, l, refl)
+loop-holds c = (omega arith, refl)
 
-array-read-if1 : tie.Need-array-read-if1 Inv-loop μ-loop
-array-read-if1 c = search needs
-
-returns : tie.Need-returns Inv-loop μ-loop
-returns c = let l = c .before .before .loop in sym (sym (l .inv .2) ∙ passed-stop _ (l .i) (omega arith) (not-true _ (c .if1 .taken)))
+shared-slice-read-all : tie.Need-shared-slice-read-all Inv-loop μ-loop
+shared-slice-read-all c = search needs
 
 add-i : tie.Need-add-i Inv-loop μ-loop
 add-i c = search needs
@@ -37,11 +31,10 @@ loop-less : tie.Need-loop-less Inv-loop μ-loop
 loop-less c = search needs
 
 loop-again : tie.Need-loop-again Inv-loop μ-loop
-loop-again c = let l = c .before .before .loop in (omega arith, l .inv .1, sym (passed-turn _ (l .i) (omega arith) (not-false _ (c .if1 .left))) ∙ l .inv .2)
+loop-again c = let l = c .before .before .loop in (omega arith, passed-more (now (c .before .before .before .args .passed)) (l .i) (l .all) (omega arith) (l .inv .1))
 
-returns-2 : tie.Need-returns-2 Inv-loop μ-loop
-unfolding allPassed
-returns-2 c = let l = c .before .loop in sym (sym (l .inv .2) ∙ ap allPassed (drop-of-length-le (c .before .before .args .t1) {i = l .i} (omega arith)))
+returns : tie.Need-returns Inv-loop μ-loop
+returns c = let l = c .before .loop in l .inv .1 ∙ ap allPassed (take-all (l .i) (now (c .before .before .args .passed)) (omega arith))
 
 pub all-passed-spec : {M : Type 1} → statement M
 all-passed-spec =
@@ -50,9 +43,8 @@ all-passed-spec =
     Inv-loop
     μ-loop
     loop-holds
-    array-read-if1
-    returns
+    shared-slice-read-all
     add-i
     loop-less
     loop-again
-    returns-2)
+    returns)

@@ -1,0 +1,59 @@
+// What a message has in each field of its record. Everything is proved, the public function has no `requires`, and it gives
+// what one definition of the crate `kinds` says.
+use item::Attempt;
+use item::Incarnation;
+use item::Item;
+use kinds::CONFIRM;
+use kinds::CONFIRMED;
+use kinds::FETCH;
+use kinds::Fields;
+use kinds::STORE;
+use kinds::STORED;
+use kinds::TABLE;
+use message::Envelope;
+use message::Message;
+ghost use mathlib.Core.Path.{_≡_};
+ghost use Rattle.kinds.specs.Kind.{filled, fieldsOf};
+
+// The fields of an envelope, with these where kinds differ.
+fn filled(envelope: Envelope, kind: u8, other: Incarnation, attempt: Attempt, item: Item) -> Fields
+    ensures { λ r. ⌜ r ≡ filled envelope kind other attempt item ⌝ }
+{
+    let incarnation = envelope.incarnation;
+    Fields {
+        kind: kind,
+        sender: envelope.sender,
+        addressee: envelope.addressee,
+        incarnation: incarnation,
+        other: other,
+        attempt: attempt,
+        item: item,
+    }
+}
+
+// What a message has in each field; 0 in those that its kind does not use.
+pub fn fields_of(envelope: Envelope) -> Fields
+    ensures { λ r. ⌜ r ≡ fieldsOf envelope ⌝ }
+{
+    let message = envelope.message;
+    match message {
+        Message::Store { attempt, item } => filled(envelope, STORE, Incarnation(0), attempt, item),
+        Message::Stored {
+            other,
+            attempt,
+            item,
+        } => filled(envelope, STORED, other, attempt, item),
+        Message::Confirm {
+            other,
+            attempt,
+            item,
+        } => filled(envelope, CONFIRM, other, attempt, item),
+        Message::Confirmed {
+            other,
+            attempt,
+            item,
+        } => filled(envelope, CONFIRMED, other, attempt, item),
+        Message::Fetch => filled(envelope, FETCH, Incarnation(0), Attempt(0), Item::zero()),
+        Message::Table { other } => filled(envelope, TABLE, other, Attempt(0), Item::zero()),
+    }
+}
