@@ -11,7 +11,7 @@ use Rattle.progress.specs.Feeding.{lineFeeds}
 abbrev pub notAll : ℕ
 notAll = 18446744073709551615
 
--- the first `at` bytes of the output stand in `out`, and no more than the longest line has room after them
+-- the first `at` bytes of the output stand in `out`, and fewer are left after them than the longest line takes
 pub record NoRoom (output out : List ℕ) : Type 0 where
   pub at : ℕ
   pub within : at ≤ length out

@@ -24,7 +24,7 @@ use Rattle.progress.specs.FeedingLaws.{program-alike}
 use Rattle.progress.specs.declared.Drill.{Drill}
 use Rattle.progress.specs.declared.Progress.{Progress}
 use Rattle.script.specs.Line.{lineOf}
-use Rattle.script.specs.Pending.{noneYet}
+use Rattle.pending.specs.Pending.{noneYet}
 use Rattle.boundary.specs.Script.{notAll, NoRoom, ScriptRun}
 
 -- ---- how long the output may be

@@ -3,17 +3,10 @@
 // definitions of specs/ say, whatever is handed in.
 use answers::LINE_ROOM;
 use feeding::feed;
-use numbers::COUNT;
-use numbers::Stated;
-use numbers::message_in;
-use numbers::put;
-use numbers::rows_in;
 use progress::Progress;
 use progress::finish;
-use record::Reading;
-use record::SIZE;
 ghost use mathlib.Core.Path.{_≡_};
-ghost use Rattle.boundary.specs.Records.{bytesWritten, mayRead, mayWrite, numbersRead};
+ghost use Rattle.record_numbers.specs.Records.{bytesWritten, mayRead, mayWrite, numbersRead};
 ghost use Rattle.boundary.specs.Script.{ScriptRun};
 ghost use Rattle.boundary.specs.Sound.{soundFor};
 
@@ -65,18 +58,7 @@ pub extern "C" fn yagvost_read_record(
 ) -> bool
     ensures { λ r. ⌜ (r ≡ mayRead (now (bytes .entry)) «record» n (now (numbers .entry))) × (now (numbers .exit) ≡ numbersRead (now (bytes .entry)) «record» n (now (numbers .entry))) ⌝ }
 {
-    if numbers.len() != COUNT {
-        return false;
-    }
-    let i = record as usize;
-    let Reading::Found(envelope) = codec::read(bytes, i, n as usize) else {
-        return false;
-    };
-    let next = links::next(bytes, i) as u64;
-    let fields = kinds::fields_of(envelope);
-    let rows = codec::rows(bytes, i);
-    put(numbers, next, fields, rows);
-    true
+    record_numbers::read_record(bytes, record, n, numbers)
 }
 
 // Record `record` of the bytes becomes what the numbers say in a group of `n`, in the same order. Where the record is
@@ -91,15 +73,5 @@ pub extern "C" fn yagvost_write_record(
 ) -> bool
     ensures { λ r. ⌜ (r ≡ mayWrite (now (bytes .entry)) «record» n (now (numbers .entry))) × (now (bytes .exit) ≡ bytesWritten (now (bytes .entry)) «record» n (now (numbers .entry))) ⌝ }
 {
-    let i = record as usize;
-    if bytes.len() / SIZE <= i {
-        return false;
-    }
-    let size = n as usize;
-    let Stated::Message { next, envelope } = message_in(numbers, size) else {
-        return false;
-    };
-    let rows = rows_in(numbers);
-    codec::write(bytes, i, size, next, envelope, rows);
-    true
+    record_numbers::write_record(bytes, record, n, numbers)
 }

@@ -20,7 +20,7 @@ use item::Index;
 use item::Item;
 use item::Row;
 use item::Tag;
-use kinds::fields_of;
+use kinds_write::fields_of;
 use libc::STDOUT_FILENO;
 use message::Envelope;
 use node::with_row;

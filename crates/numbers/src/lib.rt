@@ -182,10 +182,10 @@ pub fn message_in(numbers: &[u64], n: usize) -> Stated
     }
     let next = numbers[0] as u16;
     let fields = fields_in(numbers);
-    let Known::Known(message) = kinds::message_of(fields) else {
+    let Known::Known(message) = kinds_read::message_of(fields) else {
         return Stated::Refused;
     };
-    let from = ROWS_FIRST + 2 * kinds::rows_held(message, n);
+    let from = ROWS_FIRST + 2 * held_rows::rows_held(message, n);
     if !zero_from(numbers, from) {
         return Stated::Refused;
     }

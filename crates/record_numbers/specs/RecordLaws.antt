@@ -21,7 +21,7 @@ use Rattle.numbers.specs.declared.Stated.the-variants.{Message, Refused}
 use Rattle.record.specs.Layout.{recordSize, recordOf, withRecord}
 use Rattle.record.specs.Record.{recordBytes, readRecord}
 use Rattle.record.specs.declared.Reading.the-variants.{Found, Fault}
-use Rattle.boundary.specs.Records.{mayRead, numbersRead, mayWrite, bytesWritten}
+use Rattle.record_numbers.specs.Records.{mayRead, numbersRead, mayWrite, bytesWritten}
 
 length-numbers : (next : ℕ) (f : Fields) (rows : List Item) → length rows ≡ maxNodes → length (numbersOf next f rows) ≡ numberCount
 unfolding numbersOf

@@ -1,11 +1,11 @@
--- `yagvost_write_record` meets its contract: each way out by one law of `RecordLaws`.
+-- `record_numbers::write_record` meets its contract: each way out by one law of `RecordLaws`.
 use native.Mathlib.Omega.{arith}
 use denote.Ref.{now}
 use mathlib.Core.Path.{sym, _∙_}
-use Rattle.boundary.specs.RecordLaws.{write-none, write-refused, write-message}
+use Rattle.record_numbers.specs.RecordLaws.{write-none, write-refused, write-message}
 use borrow.Author.Needs.{needs}
-use Rattle.boundary.proofs.yagvost_write_record.Statement.{statement}
-use Rattle.boundary.proofs.yagvost_write_record.Tie as tie
+use Rattle.record_numbers.proofs.write_record.Statement.{statement}
+use Rattle.record_numbers.proofs.write_record.Tie as tie
 
 returns : tie.Need-returns
 returns c = let a = c .before .before .before .args in write-none (now (a .bytes)) (a .«record») (a .n) (now (a .numbers)) (omega arith)
@@ -34,8 +34,8 @@ same-length c = search needs
 returns-3 : tie.Need-returns-3
 returns-3 c = let a = c .before .before .before .before .before .before .before .before .before .before .before .before .args in let says = sym (c .before .before .before .before .before .before .before .before .message-in .ensures) ∙ c .before .before .before .before .before .before .next .given .1 in let w = write-message (now (a .bytes)) (a .«record») (a .n) (now (a .numbers)) _ (omega (arith, c .before .before .before .before .before .before .before .before .before .if1 .left)) says (c .before .before .before .before .rows-in .ensures) in (w .0, c .before .before .write .ensures ∙ w .1)
 
-pub yagvost-write-record-spec : {M : Type 1} → statement M
-yagvost-write-record-spec =
+pub write-record-spec : {M : Type 1} → statement M
+write-record-spec =
     tie.close
     (tie.spec
     returns

@@ -1,0 +1,50 @@
+// One record of lent bytes as the 39 numbers of crate `numbers`, read and written. Everything is proved, no public function
+// has a `requires`, and each gives what one definition of specs/ says.
+use numbers::COUNT;
+use numbers::Stated;
+use numbers::message_in;
+use numbers::put;
+use numbers::rows_in;
+use record::Reading;
+use record::SIZE;
+ghost use mathlib.Core.Path.{_≡_};
+ghost use Rattle.record_numbers.specs.Records.{bytesWritten, mayRead, mayWrite, numbersRead};
+
+// The numbers of record `record` of the bytes, read for a group of `n`: next, kind, sender, addressee, the sender's
+// incarnation, the other incarnation, attempt, index, tag, and the index and tag of fifteen rows. Where there are not 39
+// numbers, the record is not whole within the bytes, or it is no message, it gives false and no number has changed.
+pub fn read_record(bytes: &[u8], record: u64, n: u64, numbers: &mut [u64]) -> bool
+    ensures { λ r. ⌜ (r ≡ mayRead (now (bytes .entry)) «record» n (now (numbers .entry))) × (now (numbers .exit) ≡ numbersRead (now (bytes .entry)) «record» n (now (numbers .entry))) ⌝ }
+{
+    if numbers.len() != COUNT {
+        return false;
+    }
+    let i = record as usize;
+    let Reading::Found(envelope) = record_read::read(bytes, i, n as usize) else {
+        return false;
+    };
+    let next = links::next(bytes, i) as u64;
+    let fields = kinds_write::fields_of(envelope);
+    let rows = record_rows::rows(bytes, i);
+    put(numbers, next, fields, rows);
+    true
+}
+
+// Record `record` of the bytes becomes what the numbers say in a group of `n`, in the same order. Where the record is
+// not whole within the bytes, there are not 39 numbers, one does not fit its field, or they are no message, it gives false
+// and no byte has changed. A row that the message does not have must be 0.
+pub fn write_record(bytes: &mut [u8], record: u64, n: u64, numbers: &[u64]) -> bool
+    ensures { λ r. ⌜ (r ≡ mayWrite (now (bytes .entry)) «record» n (now (numbers .entry))) × (now (bytes .exit) ≡ bytesWritten (now (bytes .entry)) «record» n (now (numbers .entry))) ⌝ }
+{
+    let i = record as usize;
+    if bytes.len() / SIZE <= i {
+        return false;
+    }
+    let size = n as usize;
+    let Stated::Message { next, envelope } = message_in(numbers, size) else {
+        return false;
+    };
+    let rows = rows_in(numbers);
+    record_write::write(bytes, i, size, next, envelope, rows);
+    true
+}
