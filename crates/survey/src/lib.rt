@@ -10,7 +10,7 @@ ghost use Rattle.record.specs.Layout.{recordSize};
 ghost use Rattle.store.specs.Records.{recordCount, recordsOf};
 ghost use Rattle.store.specs.Head.{headZero};
 ghost use Rattle.store.specs.Chain.{walked};
-ghost use Rattle.store.specs.Sound.{walkInboxes, allPassed, headPassed, unsound, survey};
+ghost use Rattle.store.specs.Sound.{walkInboxes, allPassed, headPassed, survey};
 
 // Whether the head is zero where no field of a group of its size stands.
 fn head_zero(s: &[u8]) -> bool
@@ -68,40 +68,34 @@ fn all_passed(passed: &[bool]) -> bool
     all
 }
 
-// What is found of bytes that are not a sound store.
-fn unsound() -> Survey
-    ensures { λ r. ⌜ r ≡ unsound ⌝ }
-{
-    Survey {
-        sound: false,
-        n: 0,
-        free: 0,
-    }
-}
-
 // Whether these bytes are a sound store, and if so the size of its group and how many records are free.
 pub fn of(s: &[u8]) -> Survey
     ensures { λ r. ⌜ r ≡ survey (now (s .entry)) ⌝ }
 {
+    let unsound = Survey {
+        sound: false,
+        n: 0,
+        free: 0,
+    };
     if s.len() != store::LENGTH {
-        return unsound();
+        return unsound;
     }
     let n = head::group_size(s);
     if !item::valid_size(n) {
-        return unsound();
+        return unsound;
     }
     if !head_zero(s) {
-        return unsound();
+        return unsound;
     }
     let mut passed = head_passed();
     let first = head::first_free(s);
     let free = walk::follow_free(s, first, &mut passed);
     let last = follow_inboxes(s, n, free, &mut passed);
     if !last.ok {
-        return unsound();
+        return unsound;
     }
     if !all_passed(&passed) {
-        return unsound();
+        return unsound;
     }
     Survey {
         sound: true,
