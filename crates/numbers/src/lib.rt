@@ -16,6 +16,7 @@ ghost use lib.ListN.{drop, getD, length};
 ghost use Rattle.endian.specs.Part.{withPart};
 ghost use Rattle.endian.specs.Zero.{allZero};
 ghost use Rattle.numbers.specs.Numbers.{fieldNumbers, fieldsFrom, itemFrom, numberCount, numbersFit, numbersOf, rowNumbers, rowsCount, rowsFirst, rowsFrom, stated};
+ghost use Rattle.numbers.specs.ReadBack.{NumbersReadBack};
 
 // The numbers of a record: nine, and two for each row.
 pub const COUNT: usize = ROWS_FIRST + 2 * item::MAX_NODES;
@@ -200,3 +201,8 @@ pub fn message_in(numbers: &[u64], n: usize) -> Stated
         },
     }
 }
+
+// Numbers that were written as a record are read back from it.
+pub fn reads_back()
+    ensures { λ _. ⌜ NumbersReadBack ⌝ }
+{}

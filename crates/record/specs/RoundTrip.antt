@@ -298,7 +298,7 @@ module _ (f : Fields) (m : Message) where
       (λ _. back-unknown))))))
 
 -- a message has the fields that it was read from
-fields-again : (f : Fields) (m : Message) → messageOf f ≡ known.Known m → fieldsOf (envelopeOf f m) ≡ f
+pub fields-again : (f : Fields) (m : Message) → messageOf f ≡ known.Known m → fieldsOf (envelopeOf f m) ≡ f
 unfolding Back
 fields-again f m = all-back f m
 
