@@ -2,9 +2,9 @@
 // has a `requires`, and each gives what one definition of specs/ says.
 use numbers::COUNT;
 use numbers::Stated;
-use numbers::message_in;
-use numbers::put;
-use numbers::rows_in;
+use numbers_read::message_in;
+use numbers_write::put;
+use numbers_rows::rows_in;
 use record::Reading;
 use record::SIZE;
 ghost use mathlib.Core.Path.{_≡_};

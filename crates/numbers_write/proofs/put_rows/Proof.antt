@@ -1,4 +1,4 @@
--- `numbers::put_rows` meets its contract. The invariant: the rows passed are written, by `with-row-more`.
+-- `numbers_write::put_rows` meets its contract. The invariant: the rows passed are written, by `with-row-more`.
 use Prim.Native.Nat.{ℕ, _-_, _*_, _≤_}
 use native.Mathlib.Omega.{arith}
 use denote.Ref.{now}
@@ -11,11 +11,11 @@ use Rattle.item.specs.declared.Item.{Item}
 use Rattle.endian.specs.Part.{withPart}
 use Rattle.endian.specs.PartLaws.{with-nothing}
 use Rattle.layout.specs.LayoutLaws.{length-mapped}
 use Rattle.numbers.specs.Numbers.{rowsFirst, rowsCount, numberCount, rowNumbers}
 use Rattle.numbers.specs.NumberLaws.{with-row-more}
 use borrow.Author.Needs.{needs}
-use Rattle.numbers.proofs.put_rows.Statement.{statement}
-use Rattle.numbers.proofs.put_rows.Tie as tie
+use Rattle.numbers_write.proofs.put_rows.Statement.{statement}
+use Rattle.numbers_write.proofs.put_rows.Tie as tie
 
 abbrev Inv-loop : tie.InvT-loop
 Inv-loop numbers₀ rows j₀ numbers j = (j ≤ maxNodes) × (numberCount ≤ length numbers₀) × (length rows ≡ maxNodes) × (length numbers ≡ length numbers₀) × (numbers ≡ withPart (2 * j) numbers₀ rowsFirst (rowNumbers (take j rows)))

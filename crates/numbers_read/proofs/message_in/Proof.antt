@@ -1,4 +1,4 @@
--- `numbers::message_in` meets its contract: each way out as in the definition.
+-- `numbers_read::message_in` meets its contract: each way out as in the definition.
 use Prim.Native.Nat.{ℕ, _+_, _*_, _≤_}
 use native.Mathlib.Omega.{arith}
 use denote.Ref.{now}
@@ -9,11 +9,11 @@ use Rattle.item.specs.Tests.{refuted, granted}
 use Rattle.endian.specs.Zero.{allZero}
 use Rattle.kinds.specs.Kind.{messageOf}
 use Rattle.kinds.specs.KindLaws.{rows-held-most}
 use Rattle.numbers.specs.Numbers.{rowsFirst, stated, statedAs}
 use Rattle.numbers.specs.NumberLaws.{fit-is, stated-message, stated-stray}
 use borrow.Author.Needs.{needs}
-use Rattle.numbers.proofs.message_in.Statement.{statement}
-use Rattle.numbers.proofs.message_in.Tie as tie
+use Rattle.numbers_read.proofs.message_in.Statement.{statement}
+use Rattle.numbers_read.proofs.message_in.Tie as tie
 
 fit-requires : tie.Need-fit-requires
 fit-requires c κs = search needs

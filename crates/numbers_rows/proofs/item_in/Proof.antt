@@ -1,8 +1,8 @@
--- `numbers::item_in` meets its contract: two numbers, each as in the definition.
+-- `numbers_rows::item_in` meets its contract: two numbers, each as in the definition.
 use Rattle.numbers.specs.Numbers.{itemFrom}
 use borrow.Author.Needs.{needs}
-use Rattle.numbers.proofs.item_in.Statement.{statement}
-use Rattle.numbers.proofs.item_in.Tie as tie
+use Rattle.numbers_rows.proofs.item_in.Statement.{statement}
+use Rattle.numbers_rows.proofs.item_in.Tie as tie
 
 number-at-requires : tie.Need-number-at-requires
 number-at-requires c κs = search needs

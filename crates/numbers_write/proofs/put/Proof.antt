@@ -1,14 +1,14 @@
--- `numbers::put` meets its contract: two parts that meet are all.
+-- `numbers_write::put` meets its contract: two parts that meet are all.
 use native.Mathlib.Omega.{arith}
 use denote.Ref.{now}
 use mathlib.Core.Path.{sym}
 use Rattle.endian.specs.PartLaws.{with-none}
 use Rattle.layout.specs.LayoutLaws.{length-mapped}
 use Rattle.numbers.specs.Numbers.{numberCount}
 use Rattle.numbers.specs.NumberLaws.{with-all-numbers}
 use borrow.Author.Needs.{needs}
-use Rattle.numbers.proofs.put.Statement.{statement}
-use Rattle.numbers.proofs.put.Tie as tie
+use Rattle.numbers_write.proofs.put.Statement.{statement}
+use Rattle.numbers_write.proofs.put.Tie as tie
 
 returns : tie.Need-returns
 returns c = let a = c .before .before .args in sym (with-none numberCount (now (a .numbers)) 0 _ (omega arith))

@@ -1,13 +1,13 @@
--- `numbers::rows_in` meets its contract. The invariant: each row passed is what stands at its place.
+-- `numbers_rows::rows_in` meets its contract. The invariant: each row passed is what stands at its place.
 use Prim.Native.Nat.{_-_, _≤_}
 use native.Mathlib.Omega.{arith}
 use mathlib.Core.Path.{_≡_, refl}
 use lib.ListN.{length, length-set}
 use Rattle.item.specs.Maxima.{maxNodes}
 use Rattle.numbers.specs.NumberLaws.{Passed, passed-none, passed-turn, passed-all}
 use borrow.Author.Needs.{needs}
-use Rattle.numbers.proofs.rows_in.Statement.{statement}
-use Rattle.numbers.proofs.rows_in.Tie as tie
+use Rattle.numbers_rows.proofs.rows_in.Statement.{statement}
+use Rattle.numbers_rows.proofs.rows_in.Tie as tie
 
 abbrev Inv-loop : tie.InvT-loop
 Inv-loop numbers items₀ j₀ items j = (j ≤ maxNodes) × (length items ≡ maxNodes) × Passed numbers j items

@@ -1,10 +1,10 @@
--- `numbers::fit` meets its contract: each test as in the definition.
+-- `numbers_read::fit` meets its contract: each test as in the definition.
 use native.Mathlib.Omega.{arith}
 use mathlib.Core.Path.{sym}
 use Rattle.numbers.specs.NumberLaws.{unfit, fits}
 use borrow.Author.Needs.{needs}
-use Rattle.numbers.proofs.fit.Statement.{statement}
-use Rattle.numbers.proofs.fit.Tie as tie
+use Rattle.numbers_read.proofs.fit.Statement.{statement}
+use Rattle.numbers_read.proofs.fit.Tie as tie
 
 returns : tie.Need-returns
 returns c = sym (unfit _ (λ f. omega (arith, f .long, c .if1 .taken)))

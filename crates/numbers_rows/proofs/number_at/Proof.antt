@@ -1,10 +1,10 @@
--- `numbers::number_at` meets its contract: 0 past the end.
+-- `numbers_rows::number_at` meets its contract: 0 past the end.
 use denote.Ref.{now}
 use mathlib.Core.Path.{sym}
 use lib.ListN.{List·getD-eq-default}
 use borrow.Author.Needs.{needs}
-use Rattle.numbers.proofs.number_at.Statement.{statement}
-use Rattle.numbers.proofs.number_at.Tie as tie
+use Rattle.numbers_rows.proofs.number_at.Statement.{statement}
+use Rattle.numbers_rows.proofs.number_at.Tie as tie
 
 returns : tie.Need-returns
 returns c = sym (List·getD-eq-default (now (c .before .args .numbers)) 0 (c .if1 .taken))

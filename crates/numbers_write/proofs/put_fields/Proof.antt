@@ -1,12 +1,12 @@
--- `numbers::put_fields` meets its contract: numbers stored one after the other are a part.
+-- `numbers_write::put_fields` meets its contract: numbers stored one after the other are a part.
 use native.Mathlib.Omega.{arith}
 use denote.Ref.{now}
 use lib.ListN.{length-set}
 use Rattle.endian.specs.PartLaws.{sets-is}
 use Rattle.numbers.specs.Numbers.{fieldNumbers}
 use borrow.Author.Needs.{needs}
-use Rattle.numbers.proofs.put_fields.Statement.{statement}
-use Rattle.numbers.proofs.put_fields.Tie as tie
+use Rattle.numbers_write.proofs.put_fields.Statement.{statement}
+use Rattle.numbers_write.proofs.put_fields.Tie as tie
 
 slice-write-numbers : tie.Need-slice-write-numbers
 slice-write-numbers c = search needs

@@ -1,14 +1,14 @@
--- `numbers::zero_from` meets its contract. The invariant: what is left to look at gives the answer.
+-- `numbers_read::zero_from` meets its contract. The invariant: what is left to look at gives the answer.
 use Prim.Native.Nat.{_-_, _≤_}
 use native.Mathlib.Omega.{arith}
 use denote.Ref.{now}
 use mathlib.Core.Path.{_≡_, refl, sym, _∙_}
 use lib.ListN.{length, drop}
 use Rattle.endian.specs.Zero.{allZero}
 use Rattle.numbers.specs.NumberLaws.{zero-stop, zero-turn, zero-end}
 use borrow.Author.Needs.{needs}
-use Rattle.numbers.proofs.zero_from.Statement.{statement}
-use Rattle.numbers.proofs.zero_from.Tie as tie
+use Rattle.numbers_read.proofs.zero_from.Statement.{statement}
+use Rattle.numbers_read.proofs.zero_from.Tie as tie
 
 abbrev Inv-loop : tie.InvT-loop
 Inv-loop numbers from i₀ i = (i ≤ length numbers) × (allZero (drop i numbers) ≡ allZero (drop from numbers))

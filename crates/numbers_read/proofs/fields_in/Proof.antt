@@ -1,11 +1,11 @@
--- `numbers::fields_in` meets its contract: each number is there and fits its field, as `fit-is` says.
+-- `numbers_read::fields_in` meets its contract: each number is there and fits its field, as `fit-is` says.
 use native.Mathlib.Omega.{arith}
 use mathlib.Core.Path.{refl}
 use Rattle.numbers.specs.Numbers.{fieldsFrom}
 use Rattle.numbers.specs.NumberLaws.{fit-is}
 use borrow.Author.Needs.{needs}
-use Rattle.numbers.proofs.fields_in.Statement.{statement}
-use Rattle.numbers.proofs.fields_in.Tie as tie
+use Rattle.numbers_read.proofs.fields_in.Statement.{statement}
+use Rattle.numbers_read.proofs.fields_in.Tie as tie
 
 shared-slice-read-t3 : tie.Need-shared-slice-read-t3
 shared-slice-read-t3 c = let f = fit-is _ (c .before .pre) in omega (arith, f .long)

@@ -1,0 +1,53 @@
+// The numbers of a record put into a lent slice. Everything is proved, no public function has a
+// `requires`, and each gives what one definition of the crate `numbers` says.
+use item::Item;
+use kinds::Fields;
+use numbers::COUNT;
+use numbers::ROWS_FIRST;
+ghost use Prim.Native.Nat.{_≤_};
+ghost use mathlib.Core.Path.{_≡_};
+ghost use lib.ListN.{length};
+ghost use Rattle.endian.specs.Part.{withPart};
+ghost use Rattle.numbers.specs.Numbers.{fieldNumbers, numberCount, numbersOf, rowNumbers, rowsCount, rowsFirst};
+
+// The numbers before the rows.
+fn put_fields(numbers: &mut [u64], next: u64, fields: Fields)
+    requires { ⌜ numberCount ≤ length (now numbers) ⌝ }
+    ensures { λ _. ⌜ now (numbers .exit) ≡ withPart rowsFirst (now (numbers .entry)) 0 (fieldNumbers next fields) ⌝ }
+{
+    numbers[0] = next;
+    numbers[1] = fields.kind as u64;
+    numbers[2] = fields.sender as u64;
+    numbers[3] = fields.addressee as u64;
+    numbers[4] = fields.incarnation.0 as u64;
+    numbers[5] = fields.other.0 as u64;
+    numbers[6] = fields.attempt.0 as u64;
+    numbers[7] = fields.item.index.0;
+    numbers[8] = fields.item.tag.0;
+}
+
+// The numbers of the rows.
+fn put_rows(numbers: &mut [u64], rows: [Item; item::MAX_NODES])
+    requires { ⌜ numberCount ≤ length (now numbers) ⌝ }
+    ensures { λ _. ⌜ now (numbers .exit) ≡ withPart rowsCount (now (numbers .entry)) rowsFirst (rowNumbers rows) ⌝ }
+{
+    let mut j = 0;
+    while j < item::MAX_NODES {
+        let row = rows[j];
+        let at = ROWS_FIRST + 2 * j;
+        numbers[at] = row.index.0;
+        numbers[at + 1] = row.tag.0;
+        j += 1;
+    }
+}
+
+// The first 39 of the numbers become those of a record; fewer stay as they are.
+pub fn put(numbers: &mut [u64], next: u64, fields: Fields, rows: [Item; item::MAX_NODES])
+    ensures { λ _. ⌜ now (numbers .exit) ≡ withPart numberCount (now (numbers .entry)) 0 (numbersOf next fields rows) ⌝ }
+{
+    if numbers.len() < COUNT {
+        return;
+    }
+    put_fields(numbers, next, fields);
+    put_rows(numbers, rows);
+}
