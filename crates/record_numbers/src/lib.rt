@@ -3,8 +3,8 @@
 use numbers::COUNT;
 use numbers::Stated;
 use numbers_read::message_in;
-use numbers_write::put;
 use numbers_rows::rows_in;
+use numbers_write::put;
 use record::Reading;
 use record::SIZE;
 ghost use mathlib.Core.Path.{_≡_};
