@@ -1,6 +1,7 @@
 // A message dropped from a store over lent bytes. Everything is proved, the public function has no `requires`, and it
 // leaves the bytes that one definition of the crate `store` says. Bytes that are not as long as a store stay as they are;
 // whatever a store's bytes are, every call ends and stays inside them.
+use std::num::wrapping_add_usize;
 ghost use mathlib.Core.Path.{_≡_};
 ghost use Prim.Native.Nat.{_*_};
 ghost use lib.ListN.{length};
@@ -15,17 +16,24 @@ fn before_from(s: &[u8], r: usize, first: usize) -> usize
     ensures { λ b. ⌜ b ≡ beforeFrom recordCount (recordsOf (now (s .entry))) r first ⌝ }
 {
     let mut i = first;
+    let mut step = 1;
     let mut left = store::RECORDS;
     while 0 < left {
         if i == 0 {
             return 0;
         }
+        let guess = wrapping_add_usize(i, step);
         let after = links::next(s, i);
         if after == r {
             return i;
         }
-        i = after;
         left -= 1;
+        if after == guess {
+            i = guess;
+            continue;
+        }
+        step = stride::between(i, after);
+        i = after;
     }
     0
 }

@@ -3,6 +3,7 @@
 // whatever a store's bytes are, every call ends and stays inside them.
 use item::Item;
 use message::Envelope;
+use std::num::wrapping_add_usize;
 ghost use mathlib.Core.Path.{_≡_};
 ghost use Prim.Native.Nat.{_*_};
 ghost use lib.ListN.{length};
@@ -17,14 +18,21 @@ fn last_from(s: &[u8], first: usize) -> usize
     ensures { λ r. ⌜ r ≡ lastFrom recordCount (recordsOf (now (s .entry))) first ⌝ }
 {
     let mut i = first;
+    let mut step = 1;
     let mut left = store::RECORDS;
     while 0 < left {
+        let guess = wrapping_add_usize(i, step);
         let after = links::next(s, i);
         if after == 0 {
             return i;
         }
-        i = after;
         left -= 1;
+        if after == guess {
+            i = guess;
+            continue;
+        }
+        step = stride::between(i, after);
+        i = after;
     }
     i
 }

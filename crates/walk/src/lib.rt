@@ -2,6 +2,7 @@
 // function has a `requires`, and each gives what one definition of the crate `store` says. In bytes that are not as long as
 // a store there is no chain. The marks of the records passed are lent: a copy of them would take longer than a short chain.
 use record::Reading;
+use std::num::wrapping_add_usize;
 ghost use mathlib.Core.Path.{_≡_};
 ghost use Rattle.record.specs.Layout.{recordOf};
 ghost use Rattle.store.specs.Chain.{walked};
@@ -44,6 +45,7 @@ pub fn follow_free(s: &[u8], first: usize, passed: &mut [bool]) -> Followed
         };
     }
     let mut i = first;
+    let mut step = 1;
     let mut count = 0;
     while count < store::RECORDS {
         if i == 0 {
@@ -52,6 +54,7 @@ pub fn follow_free(s: &[u8], first: usize, passed: &mut [bool]) -> Followed
         if passed.len() <= i {
             break;
         }
+        let guess = wrapping_add_usize(i, step);
         if passed[i] {
             break;
         }
@@ -59,8 +62,14 @@ pub fn follow_free(s: &[u8], first: usize, passed: &mut [bool]) -> Followed
             break;
         }
         passed[i] = true;
-        i = links::next(s, i);
         count += 1;
+        let after = links::next(s, i);
+        if after == guess {
+            i = guess;
+            continue;
+        }
+        step = stride::between(i, after);
+        i = after;
     }
     Followed {
         ok: i == 0,
@@ -80,6 +89,7 @@ pub fn follow_inbox(s: &[u8], first: usize, n: usize, owner: usize, passed: &mut
         };
     }
     let mut r = first;
+    let mut step = 1;
     let mut count = 0;
     while count < store::RECORDS {
         if r == 0 {
@@ -88,6 +98,7 @@ pub fn follow_inbox(s: &[u8], first: usize, n: usize, owner: usize, passed: &mut
         if passed.len() <= r {
             break;
         }
+        let guess = wrapping_add_usize(r, step);
         if passed[r] {
             break;
         }
@@ -95,8 +106,14 @@ pub fn follow_inbox(s: &[u8], first: usize, n: usize, owner: usize, passed: &mut
             break;
         }
         passed[r] = true;
-        r = links::next(s, r);
         count += 1;
+        let after = links::next(s, r);
+        if after == guess {
+            r = guess;
+            continue;
+        }
+        step = stride::between(r, after);
+        r = after;
     }
     Followed {
         ok: r == 0,
