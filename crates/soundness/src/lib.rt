@@ -1,12 +1,14 @@
 // Soundness of one node at its place in the table of a group of n: unused fields zero, and who is counted and asked.
 // Everything is proved, the public function has no `requires`, and each function gives what one definition of protocol's
 // specs/Sound says. Any node may be asked about.
+use idle_soundness::is_at_rest;
 use item::Attempt;
 use item::Incarnation;
 use node::count_peers;
 use node::half;
 use node::peer_of;
 use phase::is_confirming;
+use phase::is_up_idle;
 use protocol::Node;
 use protocol::Peer;
 use protocol::Phase;
@@ -15,16 +17,37 @@ use row_soundness::rows_sound;
 ghost use mathlib.Core.Path.{_≡_};
 ghost use Rattle.protocol.specs.Sound.{everyFrom, peerSound, stageCounts, phaseCounts, attemptFits, amongAsked, countedAsked, peersSound, soundNode};
 
-// Whether the node is sound at this place of the table of a group of n.
+// Whether the node is sound at this place of the table of a group of n. Most nodes are Up, Idle and at rest, and these are
+// judged here. Whether a node is at rest is asked before anything else is decided: so the compiler reads the node where it
+// stands, and copies none.
 pub fn node_sound(n: usize, place: usize, node: Node) -> bool
     ensures { λ r. ⌜ r ≡ soundNode n place node ⌝ }
 {
+    let at_rest = is_at_rest(node);
     if node.number != place {
         return false;
     }
     if node.n != n {
         return false;
     }
+    if !at_rest {
+        return fields_sound(n, place, node);
+    }
+    let phase = node.phase;
+    if !is_up_idle(phase) {
+        return fields_sound(n, place, node);
+    }
+    if Node::MAX_ROWS <= n {
+        return true;
+    }
+    rows_sound(n, node)
+}
+
+// Whether a node of this number and this n is sound: its fields looked at one after the other.
+fn fields_sound(n: usize, place: usize, node: Node) -> bool
+    requires { ⌜ (node .number ≡ place) × (node .n ≡ n) ⌝ }
+    ensures { λ r. ⌜ r ≡ soundNode n place node ⌝ }
+{
     let phase = node.phase;
     if !attempt_fits(phase, node.attempt) {
         return false;

@@ -7,14 +7,12 @@ ghost use mathlib.Core.Path.{_≡_};
 ghost use Rattle.protocol.specs.Sound.{soundNode};
 ghost use Rattle.protocol.specs.Table.{soundTable};
 
-// Whether the nodes before `i` are sound (`ok`), and so is this one at its place.
+// Whether the nodes before `i` are sound (`ok`), and so is this one at its place. It is looked at in any case: after a branch
+// the compiler would copy it.
 fn and_sound(ok: bool, node: Node, i: usize, n: usize) -> bool
     ensures { λ r. ⌜ r ≡ ok && soundNode n i node ⌝ }
 {
-    if !ok {
-        return false;
-    }
-    soundness::node_sound(n, i, node)
+    ok & soundness::node_sound(n, i, node)
 }
 
 // Whether the table has n nodes and each is sound at its place.

@@ -1,10 +1,19 @@
--- `soundness::node_sound` meets its contract: an early return for each part that fails, in the order of the definition.
--- The letters name the calls that answered: t attempt_fits, r rows_sound, k peers_sound of the counted, a of the asked, p phase_counts.
+-- `soundness::node_sound` meets its contract: a node that is Up, Idle and at rest is sound exactly if its rows are (`rest-sound`), and these are
+-- where the group has a node for each (`rest-rows`). Of any other node the fields are looked at.
+use mathlib.Core.Path.{_≡_, sym, _∙_}
+use lib.ListN.{length}
+use native.Mathlib.Omega.{arith}
 use borrow.Author.Tests.{eq-eqb, ne-eqb}
-use Rattle.item.specs.Tests.{refuted, granted}
+use Rattle.item.specs.Maxima.{maxNodes}
+use Rattle.item.specs.Tests.{granted}
 use Rattle.protocol.specs.Sound.{soundNode}
+use Rattle.node.proofs.Array.{length-mapped}
+use Rattle.idle_soundness.proofs.Resting.{rest-sound, rest-rows}
 use Rattle.soundness.proofs.node_sound.Statement.{statement}
 use Rattle.soundness.proofs.node_sound.Tie as tie
+
+is-at-rest-requires : tie.Need-is-at-rest-requires
+is-at-rest-requires c κs = tt
 
 returns : tie.Need-returns
 unfolding soundNode
@@ -14,142 +23,63 @@ returns-2 : tie.Need-returns-2
 unfolding soundNode
 returns-2 c = rw (eq-eqb _ _ (c .before .before .if1 .left), ne-eqb _ _ (c .if2 .taken))
 
-attempt-fits-requires : tie.Need-attempt-fits-requires
-attempt-fits-requires c κs = tt
+fields-sound-requires : tie.Need-fields-sound-requires
+fields-sound-requires c κs = (c .before .before .before .if1 .left, c .before .if2 .left)
 
 returns-3 : tie.Need-returns-3
-unfolding soundNode
-returns-3 c =
-    let t = c .before in
-    rw (
-      eq-eqb _ _ (t .before .before .before .if1 .left),
-      eq-eqb _ _ (t .before .if2 .left),
-      refuted (t .attempt-fits .ensures) (c .if3 .taken),
-    )
+returns-3 c = c .fields-sound .ensures
+
+is-up-idle-requires : tie.Need-is-up-idle-requires
+is-up-idle-requires c κs = tt
+
+fields-sound-requires-2 : tie.Need-fields-sound-requires-2
+fields-sound-requires-2 c κs =
+    let s = c .before .before .before in
+    (s .before .before .if1 .left, s .if2 .left)
+
+returns-4 : tie.Need-returns-4
+returns-4 c = c .fields-sound2 .ensures
+
+returns-5 : tie.Need-returns-5
+returns-5 c =
+    let good = c .before .before .before .before .before .before .before .before .before .good in
+    let long : length (c .before .before .before .before .before .before .before .before .before .args .node .rows) ≡ maxNodes = search (length-mapped, good) in
+    let i = c .before .before in
+    let s = i .before .before in
+    let r = s .before .before .before .before in
+    let a = r .before .args in
+    let rest = granted (r .is-at-rest .ensures) (i .before .if3 .left) in
+    let idle = granted (i .is-up-idle .ensures) (c .before .if4 .left) in
+    sym
+    (rest-sound (a .node) rest (a .n) idle (a .place) (s .before .before .if1 .left) (s .if2 .left)
+    ∙ rest-rows (a .node) rest (a .n) idle (omega arith))
 
 rows-sound-requires : tie.Need-rows-sound-requires
 rows-sound-requires c κs = tt
 
-returns-4 : tie.Need-returns-4
-unfolding soundNode
-returns-4 c =
-    let r = c .before in
-    let t = r .before .before in
-    rw (
-      eq-eqb _ _ (t .before .before .before .if1 .left),
-      eq-eqb _ _ (t .before .if2 .left),
-      granted (t .attempt-fits .ensures) (r .before .if3 .left),
-      refuted (r .rows-sound .ensures) (c .if4 .taken),
-    )
-
-peers-sound-requires : tie.Need-peers-sound-requires
-peers-sound-requires c κs = tt
-
-returns-5 : tie.Need-returns-5
-unfolding soundNode
-returns-5 c =
-    let k = c .before in
-    let r = k .before .before .before in
-    let t = r .before .before in
-    rw (
-      eq-eqb _ _ (t .before .before .before .if1 .left),
-      eq-eqb _ _ (t .before .if2 .left),
-      granted (t .attempt-fits .ensures) (r .before .if3 .left),
-      granted (r .rows-sound .ensures) (k .before .before .if4 .left),
-      refuted (k .peers-sound .ensures) (c .if5 .taken),
-    )
-
-peers-sound-requires-2 : tie.Need-peers-sound-requires-2
-peers-sound-requires-2 c κs = tt
-
 returns-6 : tie.Need-returns-6
-unfolding soundNode
 returns-6 c =
-    let a = c .before in
-    let k = a .before .before .before in
-    let r = k .before .before .before in
-    let t = r .before .before in
-    rw (
-      eq-eqb _ _ (t .before .before .before .if1 .left),
-      eq-eqb _ _ (t .before .if2 .left),
-      granted (t .attempt-fits .ensures) (r .before .if3 .left),
-      granted (r .rows-sound .ensures) (k .before .before .if4 .left),
-      granted (k .peers-sound .ensures) (a .before .before .if5 .left),
-      refuted (a .peers-sound2 .ensures) (c .if6 .taken),
-    )
-
-half-requires : tie.Need-half-requires
-half-requires c κs = tt
-
-count-peers-requires : tie.Need-count-peers-requires
-count-peers-requires c κs = tt
-
-count-peers-requires-2 : tie.Need-count-peers-requires-2
-count-peers-requires-2 c κs = tt
-
-phase-counts-requires : tie.Need-phase-counts-requires
-phase-counts-requires c κs = tt
-
-returns-7 : tie.Need-returns-7
-unfolding soundNode
-returns-7 c =
-    let p = c .before in
-    let a = p .before .before .before .before .before in
-    let k = a .before .before .before in
-    let r = k .before .before .before in
-    let t = r .before .before in
-    let counts = rw (p .before .before .before .half .ensures, p .before .before .count-peers .ensures, p .before .count-peers2 .ensures) at (refuted (p .phase-counts .ensures) (c .if7 .taken)) in
-    rw (
-      eq-eqb _ _ (t .before .before .before .if1 .left),
-      eq-eqb _ _ (t .before .if2 .left),
-      granted (t .attempt-fits .ensures) (r .before .if3 .left),
-      granted (r .rows-sound .ensures) (k .before .before .if4 .left),
-      granted (k .peers-sound .ensures) (a .before .before .if5 .left),
-      granted (a .peers-sound2 .ensures) (p .before .before .before .before .if6 .left),
-      counts,
-    )
-
-counted-asked-requires : tie.Need-counted-asked-requires
-counted-asked-requires c κs = tt
-
-returns-8 : tie.Need-returns-8
-unfolding soundNode
-returns-8 c =
-    let p = c .before .before in
-    let a = p .before .before .before .before .before in
-    let k = a .before .before .before in
-    let r = k .before .before .before in
-    let t = r .before .before in
-    let counts = rw (p .before .before .before .half .ensures, p .before .before .count-peers .ensures, p .before .count-peers2 .ensures) at (granted (p .phase-counts .ensures) (c .before .if7 .left)) in
-    rw (
-      c .counted-asked .ensures,
-      eq-eqb _ _ (t .before .before .before .if1 .left),
-      eq-eqb _ _ (t .before .if2 .left),
-      granted (t .attempt-fits .ensures) (r .before .if3 .left),
-      granted (r .rows-sound .ensures) (k .before .before .if4 .left),
-      granted (k .peers-sound .ensures) (a .before .before .if5 .left),
-      granted (a .peers-sound2 .ensures) (p .before .before .before .before .if6 .left),
-      counts,
-    )
+    let i = c .before .before .before in
+    let s = i .before .before in
+    let r = s .before .before .before .before in
+    let a = r .before .args in
+    let rest = granted (r .is-at-rest .ensures) (i .before .if3 .left) in
+    let idle = granted (i .is-up-idle .ensures) (c .before .before .if4 .left) in
+    c .rows-sound .ensures
+    ∙ sym (rest-sound (a .node) rest (a .n) idle (a .place) (s .before .before .if1 .left) (s .if2 .left))
 
 pub node-sound-spec : {M : Type 1} → statement M
 node-sound-spec =
     tie.close
     (tie.spec
+    is-at-rest-requires
     returns
     returns-2
-    attempt-fits-requires
+    fields-sound-requires
     returns-3
-    rows-sound-requires
+    is-up-idle-requires
+    fields-sound-requires-2
     returns-4
-    peers-sound-requires
     returns-5
-    peers-sound-requires-2
-    returns-6
-    half-requires
-    count-peers-requires
-    count-peers-requires-2
-    phase-counts-requires
-    returns-7
-    counted-asked-requires
-    returns-8)
+    rows-sound-requires
+    returns-6)
