@@ -6,31 +6,9 @@ use message::Envelope;
 use record::Reading;
 use record::SIZE;
 ghost use mathlib.Core.Path.{_≡_};
-ghost use Prim.Native.Nat.{_+_, _*_, _≤_};
-ghost use lib.ListN.{length, drop};
-ghost use Rattle.item.specs.Maxima.{maxNodes};
-ghost use Rattle.endian.specs.Zero.{allZero};
-ghost use Rattle.record.specs.Layout.{recordSize, recordOf, rowsAt, rowSize};
+ghost use lib.ListN.{length};
+ghost use Rattle.record.specs.Layout.{recordSize, recordOf};
 ghost use Rattle.record.specs.Record.{readRecord};
-
-// Whether every byte after the first `held` rows of a record is 0. Where none is held, as in most messages, the first row is
-// tested by its two numbers, so that what is left is a fixed number of bytes, which the compiler tests in whole blocks.
-fn zero_after_rows(r: &[u8], held: usize) -> bool
-    requires { ⌜ (length (now r) ≡ recordSize) × (held ≤ maxNodes) ⌝ }
-    ensures { λ b. ⌜ b ≡ allZero (drop (rowsAt + held * rowSize) (now (r .entry))) ⌝ }
-{
-    if held != 0 {
-        let from = layout::ROWS_AT + held * layout::ROW_SIZE;
-        return zero_bytes::is_zero(&r[from..]);
-    }
-    if endian_read::read_u64(r, layout::ROWS_AT) != 0 {
-        return false;
-    }
-    if endian_read::read_u64(r, layout::ROWS_AT + layout::INDEX_SIZE) != 0 {
-        return false;
-    }
-    zero_bytes::is_zero(&r[layout::ROWS_AT + layout::ROW_SIZE..])
-}
 
 // The message in a record.
 fn read_record(r: &[u8], n: usize) -> Reading
@@ -41,8 +19,7 @@ fn read_record(r: &[u8], n: usize) -> Reading
     let Known::Known(message) = kinds_read::message_of(fields) else {
         return Reading::Fault;
     };
-    let held = held_rows::rows_held(message, n);
-    if !zero_after_rows(r, held) {
+    if !readable::zero_after_rows(r, n) {
         return Reading::Fault;
     }
     let incarnation = fields.incarnation;

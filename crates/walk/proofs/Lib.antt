@@ -1,1 +1,2 @@
+pub mod Belonging
 pub mod Walking

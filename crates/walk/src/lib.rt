@@ -1,7 +1,7 @@
 // One chain of a store followed from its first record on, each record judged as it is passed. Everything is proved, no public
 // function has a `requires`, and each gives what one definition of the crate `store` says. In bytes that are not as long as
 // a store there is no chain. The marks of the records passed are lent: a copy of them would take longer than a short chain.
-use record::Reading;
+use record::SIZE;
 use std::num::wrapping_add_usize;
 ghost use mathlib.Core.Path.{_≡_};
 ghost use Rattle.record.specs.Layout.{recordOf};
@@ -17,20 +17,33 @@ pub struct Followed {
     pub count: usize,
 }
 
+// Whether a record is a message to `owner` from another node of a group of `n`: by sender and addressee first, which are one
+// byte.
+fn message_to(r: &[u8], n: usize, owner: usize) -> bool
+    ensures { λ b. ⌜ b ≡ belongsTo n owner (now (r .entry)) ⌝ }
+{
+    let fields = decoding::read_fields(r);
+    if fields.addressee != owner {
+        return false;
+    }
+    if n <= fields.sender {
+        return false;
+    }
+    if fields.sender == fields.addressee {
+        return false;
+    }
+    readable::is_readable(r, n)
+}
+
 // Whether record `i` is a message to `owner` from another node of a group of `n`.
 fn belongs_to(s: &[u8], i: usize, n: usize, owner: usize) -> bool
     ensures { λ r. ⌜ r ≡ belongsTo n owner (recordOf (now (s .entry)) i) ⌝ }
 {
-    let Reading::Found(envelope) = record_read::read(s, i, n) else {
-        return false;
-    };
-    if n <= envelope.sender {
+    if s.len() / SIZE <= i {
         return false;
     }
-    if envelope.sender == envelope.addressee {
-        return false;
-    }
-    envelope.addressee == owner
+    let a = i * SIZE;
+    message_to(&s[a..a + SIZE], n, owner)
 }
 
 // The free chain from record `first` is followed to its end, or to a record that is not there, was passed before or is not

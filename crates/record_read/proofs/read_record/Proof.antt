@@ -1,15 +1,13 @@
 -- `record_read::read_record` meets its contract: the message of the fields, unless a byte after its rows is not 0.
-use lib.ListN.{length, drop}
+use lib.ListN.{length}
 use mathlib.Core.Path.{sym, ap, _∙_}
 use denote.Ref.{now}
 use Rattle.item.specs.Tests.{refuted, granted}
 use borrow.Author.Tests.{eq-eqb}
-use Prim.Native.Nat.{ℕ, _+_, _*_}
-use Rattle.kinds.specs.KindLaws.{rows-held-most}
-use Rattle.record.specs.RecordLaws.{read-found, read-stray}
-use Rattle.endian.specs.Zero.{allZero}
-use Rattle.layout.specs.Layout.{rowsAt, rowSize}
-use Rattle.record.specs.Record.{readRecord, readAs, zeroAfterRows}
+use Rattle.kinds.specs.Kind.{messageOf}
+use Rattle.record.specs.Record.{readRecord, readAs}
+use Rattle.record.specs.RecordLaws.{read-found}
+use Rattle.readable.specs.ReadableLaws.{zero-read, zero-long, read-stray}
 use borrow.Author.Needs.{needs}
 use Rattle.record_read.proofs.read_record.Statement.{statement}
 use Rattle.record_read.proofs.read_record.Tie as tie
@@ -30,33 +28,22 @@ returns : tie.Need-returns
 unfolding readRecord readAs
 returns c = let a = c .before .before .before .before .before in rw (eq-eqb (length (now (a .args .r))) 272 (a .pre), ← c .before .before .before .read-fields .ensures, ← c .before .before .message-of .ensures, c .enum-told .given .1)
 
-rows-held-requires : tie.Need-rows-held-requires
-rows-held-requires c κs = search needs
-
 zero-after-rows-requires : tie.Need-zero-after-rows-requires
-zero-after-rows-requires c κs = (c .before .before .before .before .before .before .before .pre, rw (c .rows-held .ensures) (rows-held-most _ _))
+zero-after-rows-requires c κs = search needs
 
 returns-2 : tie.Need-returns-2
-unfolding zeroAfterRows
-returns-2 c =
+returns-2 c = sym (read-stray _ _ (refuted (c .before .zero-after-rows .ensures) (c .if1 .taken)))
+
+returns-3 : tie.Need-returns-3
+returns-3 c =
     let a = c .before .before .before .before .before .before .before .before .before in
     let r = now (a .args .r) in
     let f = c .before .before .before .before .before .before .before .read-fields in
     let m = c .before .before .before .before .message in
     let e = sym (c .before .before .before .before .before .before .message-of .ensures) ∙ m .given .1 in
-    let h = ap (λ (k : ℕ). allZero (drop (rowsAt + k * rowSize) r)) (sym (c .before .before .rows-held .ensures)) in
-    sym (read-stray (a .args .n) r (f .result) (m .given .0 .0) (a .pre) (f .ensures) e (h ∙ refuted (c .before .zero-after-rows .ensures) (c .if1 .taken)))
-
-returns-3 : tie.Need-returns-3
-unfolding zeroAfterRows
-returns-3 c =
-    let a = c .before .before .before .before .before .before .before .before .before .before in
-    let r = now (a .args .r) in
-    let f = c .before .before .before .before .before .before .before .before .read-fields in
-    let m = c .before .before .before .before .before .message in
-    let e = sym (c .before .before .before .before .before .before .before .message-of .ensures) ∙ m .given .1 in
-    let h = ap (λ (k : ℕ). allZero (drop (rowsAt + k * rowSize) r)) (sym (c .before .before .before .rows-held .ensures)) in
-    sym (read-found (a .args .n) r (f .result) (m .given .0 .0) (a .pre) (f .ensures) e (h ∙ granted (c .before .before .zero-after-rows .ensures) (c .before .if1 .left)))
+    let z = granted (c .before .before .zero-after-rows .ensures) (c .before .if1 .left) in
+    let again = zero-read (a .args .n) r (m .given .0 .0) (ap messageOf (sym (f .ensures)) ∙ e) (zero-long _ _ z) in
+    sym (read-found (a .args .n) r (f .result) (m .given .0 .0) (a .pre) (f .ensures) e (sym again ∙ z))
 
 pub read-record-spec : {M : Type 1} → statement M
 read-record-spec =
@@ -67,7 +54,6 @@ read-record-spec =
     enum-known-message
     enum-told
     returns
-    rows-held-requires
     zero-after-rows-requires
     returns-2
     returns-3)

@@ -1,4 +1,4 @@
--- `record_read::zero_after_rows` meets its contract: the part after the rows held, and where none is held its tests are those of
+-- `readable::zero_from_row` meets its contract: the part after the rows held, and where none is held its tests are those of
 -- `rows-are`, in their order.
 use Prim.Native.Nat.{_+_, _-_, _*_}
 use mathlib.Core.Path.{sym, ap, _∙_}
@@ -7,10 +7,10 @@ use lib.ListN.{length, drop, length-drop}
 use lib.Seq.{take-all}
 use denote.Ref.{now}
 use Rattle.endian.specs.Zero.{allZero}
-use Rattle.record_read.proofs.Rows.{rows-first, rows-second, rows-rest}
+use Rattle.readable.proofs.Rows.{rows-first, rows-second, rows-rest}
 use borrow.Author.Needs.{needs}
-use Rattle.record_read.proofs.zero_after_rows.Statement.{statement}
-use Rattle.record_read.proofs.zero_after_rows.Tie as tie
+use Rattle.readable.proofs.zero_from_row.Statement.{statement}
+use Rattle.readable.proofs.zero_from_row.Tie as tie
 
 mul-from : tie.Need-mul-from
 mul-from c = search needs
@@ -83,8 +83,8 @@ returns-4 c =
     ∙ ap allZero (take-all (length r - 48) (drop 48 r) (rw length-drop (omega arith)))
     ∙ sym (rows-rest r (a .pre .0) (a .args .held) (c .before .before .before .before .before .before .if1 .left) (x .result) (x .ensures) (c .before .before .before .before .if2 .left) (y .result) (y .ensures) (c .before .before .if3 .left))
 
-pub zero-after-rows-spec : {M : Type 1} → statement M
-zero-after-rows-spec =
+pub zero-from-row-spec : {M : Type 1} → statement M
+zero-from-row-spec =
     tie.close
     (tie.spec
     mul-from
