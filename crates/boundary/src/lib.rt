@@ -1,13 +1,9 @@
 // What a host in C or Rust calls: a small boundary of numbers and byte slices over the crates below. A slice is handed
 // over as a pointer and a length. Everything is proved, no function has a `requires`, and each gives what the
 // definitions of specs/ say, whatever is handed in.
-use answers::LINE_ROOM;
-use feeding::feed;
-use progress::Progress;
-use progress::finish;
 ghost use mathlib.Core.Path.{_≡_};
 ghost use Rattle.record_numbers.specs.Records.{bytesWritten, mayRead, mayWrite, numbersRead};
-ghost use Rattle.boundary.specs.Script.{ScriptRun};
+ghost use Rattle.whole_script.specs.Script.{ScriptRun};
 ghost use Rattle.boundary.specs.Sound.{soundFor};
 
 // Runs a drill's whole script from its beginning, over a store of its own, and prints its answers from the start of
@@ -17,21 +13,8 @@ ghost use Rattle.boundary.specs.Sound.{soundFor};
 pub extern "C" fn yagvost_run_script(script: &[u8], out: &mut [u8]) -> usize
     ensures { λ r. ⌜ ScriptRun (now (script .entry)) (now (out .exit)) r ⌝ }
 {
-    let mut store = [0u8; store::LENGTH];
-    let fed = feed(script, Progress::start(), &mut store, out);
-    let at = fed.at;
-    let last = fed.progress;
-    if fed.next < script.len() {
-        return usize::MAX;
-    }
-    let pending = last.pending;
-    if pending.len == 0 {
-        return at;
-    }
-    if out.len() - at < LINE_ROOM {
-        return usize::MAX;
-    }
-    at + finish(last, &mut out[at..])
+    let printed = whole_script::run(script, out);
+    printed
 }
 
 // Whether these bytes are a sound store of a group of `n`.

@@ -2,6 +2,7 @@
 // function has a `requires`, and each gives what one definition of the crate `store` says. In bytes that are not as long as
 // a store there is no chain. The marks of the records passed are lent: a copy of them would take longer than a short chain.
 use record::SIZE;
+use record_ends::Ends;
 use std::num::wrapping_add_usize;
 ghost use mathlib.Core.Path.{_≡_};
 ghost use Rattle.record.specs.Layout.{recordOf};
@@ -17,22 +18,20 @@ pub struct Followed {
     pub count: usize,
 }
 
-// Whether a record is a message to `owner` from another node of a group of `n`: by sender and addressee first, which are one
-// byte.
+// Whether a record is a message to `owner` from another node of a group of `n`.
 fn message_to(r: &[u8], n: usize, owner: usize) -> bool
     ensures { λ b. ⌜ b ≡ belongsTo n owner (now (r .entry)) ⌝ }
 {
-    let fields = decoding::read_fields(r);
-    if fields.addressee != owner {
+    let Ends::Found { sender, addressee } = record_ends::read(r, n) else {
+        return false;
+    };
+    if n <= sender {
         return false;
     }
-    if n <= fields.sender {
+    if sender == addressee {
         return false;
     }
-    if fields.sender == fields.addressee {
-        return false;
-    }
-    readable::is_readable(r, n)
+    addressee == owner
 }
 
 // Whether record `i` is a message to `owner` from another node of a group of `n`.

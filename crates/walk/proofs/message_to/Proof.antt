@@ -1,52 +1,40 @@
--- `walk::message_to` meets its contract: its tests are those of `addressed`, in their order.
-use denote.Ref.{now}
+-- `walk::message_to` meets its contract: its tests are those of the definition, in their order.
 use borrow.Author.Tests.{eq-eqb, ne-eqb, lt-ltb, le-ltb}
-use Rattle.walk.proofs.Belonging.{addressed, belongs-by}
+use Rattle.walk.proofs.Belonging.{fromAnother, belongs-by}
 use borrow.Author.Needs.{needs}
 use Rattle.walk.proofs.message_to.Statement.{statement}
 use Rattle.walk.proofs.message_to.Tie as tie
 
-read-fields-requires : tie.Need-read-fields-requires
-read-fields-requires c κs = search needs
+read-requires : tie.Need-read-requires
+read-requires c κs = search needs
+
+enum-known-sender : tie.Need-enum-known-sender
+enum-known-sender c = search needs
+
+enum-told : tie.Need-enum-told
+enum-told c = search needs
 
 returns : tie.Need-returns
-unfolding addressed
-returns c =
-    let f = c .before .before .read-fields in
-    let a = c .before .before .before .before .args in
-    rw (← belongs-by (a .n) (a .owner) (now (a .r)) (f .result) (f .ensures), ne-eqb _ _ (c .if1 .taken))
+unfolding fromAnother
+returns c = rw (← belongs-by _ _ _, ← c .before .before .read .ensures, c .enum-told .given .1)
 
 returns-2 : tie.Need-returns-2
-unfolding addressed
+unfolding fromAnother
 returns-2 c =
     let t = c .before .before in
-    let f = t .before .before .read-fields in
-    let a = t .before .before .before .before .args in
-    rw (← belongs-by (a .n) (a .owner) (now (a .r)) (f .result) (f .ensures), eq-eqb _ _ (t .if1 .left), le-ltb _ _ (c .if2 .taken))
+    rw (← belongs-by _ _ _, ← t .before .before .read .ensures, t .sender .given .1, le-ltb _ _ (c .if1 .taken))
 
 returns-3 : tie.Need-returns-3
-unfolding addressed
+unfolding fromAnother
 returns-3 c =
-    let u = c .before .before in
-    let t = u .before .before in
-    let f = t .before .before .read-fields in
-    let a = t .before .before .before .before .args in
-    rw (← belongs-by (a .n) (a .owner) (now (a .r)) (f .result) (f .ensures), eq-eqb _ _ (t .if1 .left), lt-ltb _ _ (u .if2 .left), eq-eqb _ _ (c .if3 .taken))
-
-is-readable-requires : tie.Need-is-readable-requires
-is-readable-requires c κs = search needs
+    let t = c .before .before .before in
+    rw (← belongs-by _ _ _, ← t .before .before .read .ensures, t .sender .given .1, lt-ltb _ _ (c .before .if1 .left), eq-eqb _ _ (c .if2 .taken))
 
 returns-4 : tie.Need-returns-4
-unfolding addressed
+unfolding fromAnother
 returns-4 c =
-    let w = c .before in
-    let u = w .before .before in
-    let t = u .before .before in
-    let f = t .before .before .read-fields in
-    let a = t .before .before .before .before .args in
-    rw (← belongs-by (a .n) (a .owner) (now (a .r)) (f .result) (f .ensures), eq-eqb _ _ (t .if1 .left), lt-ltb _ _ (u .if2 .left), ne-eqb _ _ (w .if3 .left), c .is-readable .ensures)
+    let t = c .before .before .before in
+    rw (← belongs-by _ _ _, ← t .before .before .read .ensures, t .sender .given .1, lt-ltb _ _ (c .before .if1 .left), ne-eqb _ _ (c .if2 .left))
 
 pub message-to-spec : {M : Type 1} → statement M
-message-to-spec =
-    tie.close
-    (tie.spec read-fields-requires returns returns-2 returns-3 is-readable-requires returns-4)
+message-to-spec = tie.close (tie.spec read-requires enum-known-sender enum-told returns returns-2 returns-3 returns-4)

@@ -25,7 +25,7 @@ use Rattle.progress.specs.declared.Drill.{Drill}
 use Rattle.progress.specs.declared.Progress.{Progress}
 use Rattle.script.specs.Line.{lineOf}
 use Rattle.pending.specs.Pending.{noneYet}
-use Rattle.boundary.specs.Script.{notAll, NoRoom, ScriptRun}
+use Rattle.whole_script.specs.Script.{notAll, NoRoom, ScriptRun}
 
 -- ---- how long the output may be
 

@@ -1,13 +1,13 @@
--- `yagvost_run_script` meets its contract: the script is one piece, and what it leaves to print is the unended last line.
+-- `whole_script::run` meets its contract: the script is one piece, and what it leaves to print is the unended last line.
 use Prim.Native.Nat.{ℕ, _+_, _-_, _≤_, _<_}
 use native.Mathlib.Omega.{arith}
 use mathlib.Core.Path.{_≡_, refl, sym, ap, _∙_}
 use mathlib.Core.List.{List, _++_}
 use lib.ListN.{length, take, length-take, length-drop}
-use Rattle.boundary.specs.ScriptLaws.{none-left, stopped, whole, whole-ended, count-left, all-printed, printed-after}
+use Rattle.whole_script.specs.ScriptLaws.{none-left, stopped, whole, whole-ended, count-left, all-printed, printed-after}
 use borrow.Author.Needs.{needs}
-use Rattle.boundary.proofs.yagvost_run_script.Statement.{statement}
-use Rattle.boundary.proofs.yagvost_run_script.Tie as tie
+use Rattle.whole_script.proofs.run.Statement.{statement}
+use Rattle.whole_script.proofs.run.Tie as tie
 
 start-requires : tie.Need-start-requires
 start-requires c κs = search needs
@@ -79,8 +79,8 @@ returns-4 c =
     let lent = simp (length-take, length-drop) at (back .0) in
     all-printed _ _ _ {len = length (f .last .1 .1 .1 .0)} (omega (arith, last .0, lent, back .1, fed .within .1)) (back .1) (omega (arith, c .before .before .before .before .before .before .before .before .before .before .before .before .out .given, c .before .before .before .before .before .before .before .before .before .before .before .before .before .before .before .before .before .before .before .before .good)) (whole _ _ _ _ _ _ _ _ fed start refl (c .before .before .before .before .before .before .before .before .if1 .left) ∙ ap (λ (l : List ℕ). take (f .result .at) (f .last .1 .1 .1 .0) ++ l) (sym text) ∙ sym (printed-after (f .last .1 .1 .1 .0) _ _ _ (fed .within .1) (last .0)))
 
-pub yagvost-run-script-spec : {M : Type 1} → statement M
-yagvost-run-script-spec =
+pub run-spec : {M : Type 1} → statement M
+run-spec =
     tie.close
     (tie.spec
     start-requires
