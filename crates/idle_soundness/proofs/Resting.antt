@@ -1,13 +1,13 @@
--- A node that is Up, Idle and at rest is sound wherever its rows are, and these are where the group has a node for each.
+-- A node that is Up, Idle and at rest is sound exactly if its rows are (`rest-sound`), and in a group that has a node for each
+-- row they are (`rest-rows`).
 use Prim.Native.Nat.{ℕ, suc, _+_, _≤_}
-use mathlib.Core.Path.{_≡_, refl, sym, _∙_}
-use mathlib.Core.Bool.{Bool, true, false, not, cond, _&&_, and-true}
+use mathlib.Core.Path.{_≡_, refl}
+use mathlib.Core.Bool.{true, false, not, _&&_, and-true}
 use mathlib.Core.List.{List, [], _∷_}
 use native.Mathlib.Omega.{arith}
-use borrow.Author.Tests.{eq-eqb, lt-ltb, not-true, not-false}
-use lib.Dec.{eqb, ltb}
+use borrow.Author.Tests.{eq-eqb, lt-ltb, not-true}
 use lib.ListN.{length}
-use Rattle.item.specs.Tests.{and-left, and-right, and-both}
+use Rattle.item.specs.Tests.{and-left, and-right}
 use Rattle.counters.specs.declared.Attempt.{Attempt}
 use Rattle.item.specs.declared.Row.{Row}
 use Rattle.counters.specs.Counter.{sameIncarnation}
@@ -31,7 +31,7 @@ absent-zero : (k : ℕ) (peer : Peer) → absent k peer ≡ true → sameIncarna
 unfolding absent
 absent-zero k peer e = and-right (not (peer .present)) (sameIncarnation (peer .incarnation) (record { 0 = 0 })) e
 
-pub absent-sound : (number n k : ℕ) (peers : List Peer) → everyFrom absent k peers ≡ true → everyFrom (peerSound number n) k peers ≡ true
+absent-sound : (number n k : ℕ) (peers : List Peer) → everyFrom absent k peers ≡ true → everyFrom (peerSound number n) k peers ≡ true
 unfolding everyFrom peerSound
 absent-sound number n k [] e = refl
 absent-sound number n k (peer ∷ peers) e =
@@ -39,7 +39,7 @@ absent-sound number n k (peer ∷ peers) e =
     rw (absent-not k peer one, absent-zero k peer one)
     (absent-sound number n (suc k) peers (and-right (absent k peer) (everyFrom absent (suc k) peers) e))
 
-pub absent-count : (k : ℕ) (peers : List Peer) → everyFrom absent k peers ≡ true → countPeers peers ≡ 0
+absent-count : (k : ℕ) (peers : List Peer) → everyFrom absent k peers ≡ true → countPeers peers ≡ 0
 unfolding everyFrom countPeers
 absent-count k [] e = refl
 absent-count k (peer ∷ peers) e =
@@ -48,7 +48,7 @@ absent-count k (peer ∷ peers) e =
 
 -- ---- rows of a group that has a node for each
 
-pub unmarked-sound : (n k : ℕ) (rows : List Row) → k + length rows ≤ n → everyFrom unmarked k rows ≡ true
+unmarked-sound : (n k : ℕ) (rows : List Row) → k + length rows ≤ n → everyFrom unmarked k rows ≡ true
     → everyFrom (rowSound Stored n) k rows ≡ true
 unfolding everyFrom rowSound rowFits unmarked
 unmarked-sound n k [] h e = refl

@@ -43,7 +43,8 @@ pub fn node_sound(n: usize, place: usize, node: Node) -> bool
     rows_sound(n, node)
 }
 
-// Whether a node of this number and this n is sound: its fields looked at one after the other.
+// Whether a node of this number and this n is sound: its fields looked at one after the other. With two calls it stays a
+// function of its own, which is lent the node; in place of one call the compiler would read every field beforehand.
 fn fields_sound(n: usize, place: usize, node: Node) -> bool
     requires { ⌜ (node .number ≡ place) × (node .n ≡ n) ⌝ }
     ensures { λ r. ⌜ r ≡ soundNode n place node ⌝ }
