@@ -11,7 +11,7 @@ ghost use Rattle.layout.specs.Layout.{recordSize, rowsAt, rowSize};
 ghost use Rattle.readable.specs.Readable.{readable, rowsOfKind, zeroAfterKind};
 
 // How many rows a record of this kind has in a group of `n`.
-fn rows_of_kind(kind: u8, n: usize) -> usize
+pub fn rows_of_kind(kind: u8, n: usize) -> usize
     ensures { λ r. ⌜ r ≡ rowsOfKind kind n ⌝ }
 {
     if kind != TABLE {
