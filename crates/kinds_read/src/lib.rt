@@ -1,5 +1,5 @@
-// The message that the fields of a record say. Everything is proved, the public function has no `requires`, and it gives what
-// one definition of the crate `kinds` says.
+// The message that the fields of a record say, and whether they say one. Everything is proved, no public function has a
+// `requires`, and each gives what one definition says.
 use item::Attempt;
 use item::Incarnation;
 use item::Item;
@@ -14,6 +14,7 @@ use kinds::TABLE;
 use message::Message;
 ghost use mathlib.Core.Path.{_≡_};
 ghost use Rattle.kinds.specs.Kind.{messageOf, noWrite, knownIf};
+ghost use Rattle.kinds_read.specs.Known.{isKnown};
 
 // Whether there is neither attempt nor item.
 fn no_write(attempt: Attempt, item: Item) -> bool
@@ -69,5 +70,29 @@ pub fn message_of(fields: Fields) -> Known
         }
         TABLE => known_if(no_write, Message::Table { other }),
         _ => Known::Unknown,
+    }
+}
+
+// Whether the kind of fields is known and what it does not use is 0: as `message_of`, with no message built.
+pub fn is_known(fields: Fields) -> bool
+    ensures { λ r. ⌜ r ≡ isKnown (messageOf fields) ⌝ }
+{
+    let kind = fields.kind;
+    let other = fields.other;
+    let attempt = fields.attempt;
+    let item = fields.item;
+    match kind {
+        STORE => other.same(Incarnation(0)),
+        STORED => true,
+        CONFIRM => true,
+        CONFIRMED => true,
+        FETCH => {
+            if !other.same(Incarnation(0)) {
+                return false;
+            }
+            no_write(attempt, item)
+        }
+        TABLE => no_write(attempt, item),
+        _ => false,
     }
 }

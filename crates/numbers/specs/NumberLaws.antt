@@ -4,9 +4,10 @@ use native.Mathlib.Omega.{arith}
 use native.Mathlib.Numerals.{add-one}
 use native.Mathlib.Nat.{not-suc-le-zero, le-of-suc-le-suc}
 use mathlib.Core.Path.{_≡_, refl, sym, ap, _∙_}
-use mathlib.Core.Bool.{Bool, true, false, _&&_}
+use mathlib.Core.Bool.{Bool, true, false, _&&_, cond, and-assoc, and-false}
 use mathlib.Core.List.{List, [], _∷_, _++_}
 use lib.Dec.{eqb, ltb}
+use lib.Bits.{bitOr}
 use lib.ListN.{length, getD, take, drop, set, drop-of-length-le}
 use lib.Seq.{length-take-le, drop-cons, getD-set-same, getD-set-other, ext-getD}
 use borrow.Author.Tests.{eqb-true, eq-eqb, ne-eqb, ltb-true, lt-ltb}
@@ -17,14 +18,19 @@ use Rattle.item.specs.declared.Item.{Item}
 use Rattle.endian.specs.Part.{withPart}
 use Rattle.endian.specs.PartLaws.{by-order, sets-is, with-joined}
 use Rattle.endian.specs.Zero.{allZero}
-use Rattle.endian.specs.ZeroLaws.{both}
+use Rattle.endian.specs.ZeroLaws.{both, or-zero}
 use Rattle.kinds.specs.Kind.{messageOf, rowsHeld}
 use Rattle.kinds.specs.declared.Fields.{Fields}
 use Rattle.kinds.specs.declared.Known.the-variants as known
 use Rattle.message.specs.declared.Message as kind
 use Rattle.record.specs.Record.{envelopeOf}
+use Rattle.readable.specs.Readable.{rowsOfKind}
+use Rattle.readable.specs.ReadableLaws.{rows-read}
+use Rattle.kinds_read.specs.Known.{isKnown}
+use Rattle.message.specs.declared.Envelope.{Envelope}
+use Rattle.kinds.specs.declared.Known.{Known}
 use Rattle.numbers.specs.declared.Stated.the-variants.{Message, Refused}
-use Rattle.numbers.specs.Numbers.{rowsFirst, rowsCount, numberCount, fieldNumbers, rowNumbers, numbersOf, itemFrom, fieldsFrom, itemsFrom, rowsFrom, numbersFit, statedAs, stated}
+use Rattle.numbers.specs.Numbers.{rowsFirst, rowsCount, numberCount, fieldNumbers, rowNumbers, numbersOf, itemFrom, fieldsFrom, itemsFrom, rowsFrom, numbersFit, statedAs, stated, isStated}
 
 -- ---- which numbers fit
 
@@ -115,13 +121,11 @@ with-all-numbers s next f rows hs hr =
 -- ---- numbers that are 0
 
 module _ (ns : List ℕ) (i : ℕ) where
-  pub zero-stop : i < length ns → (getD ns i 0 ≡ 0 → ⊥) → allZero (drop i ns) ≡ false
+  -- one more joined by or
+  pub zero-joined : (joined : ℕ) → i < length ns → eqb (bitOr joined (getD ns i 0)) 0 && allZero (drop (i + 1) ns) ≡ eqb joined 0 && allZero (drop i ns)
   unfolding allZero
-  zero-stop h n = rw (drop-cons ns i 0 h, ne-eqb (getD ns i 0) 0 n)
-
-  pub zero-turn : i < length ns → getD ns i 0 ≡ 0 → allZero (drop i ns) ≡ allZero (drop (i + 1) ns)
-  unfolding allZero
-  zero-turn h e = rw (drop-cons ns i 0 h, eq-eqb (getD ns i 0) 0 e, add-one)
+  zero-joined joined h =
+      rw (add-one, drop-cons ns i 0 h, or-zero joined (getD ns i 0)) (and-assoc (eqb joined 0) (eqb (getD ns i 0) 0) (allZero (drop (suc i) ns)))
 
   pub zero-end : length ns ≤ i → allZero (drop i ns) ≡ true
   unfolding allZero
@@ -133,6 +137,10 @@ pub length-items : (m : ℕ) (ns : List ℕ) (at : ℕ) → length (itemsFrom m 
 unfolding itemsFrom
 length-items zero ns at = refl
 length-items (suc m) ns at = ap suc (length-items m ns (at + 2))
+
+pub length-rows-from : (ns : List ℕ) → length (rowsFrom ns) ≡ maxNodes
+unfolding rowsFrom
+length-rows-from ns = length-items maxNodes ns rowsFirst
 
 pub getD-items : (m : ℕ) (ns : List ℕ) (at j : ℕ) → j < m → getD (itemsFrom m ns at) j zeroItem ≡ itemFrom ns (at + 2 * j)
 unfolding itemsFrom
@@ -163,11 +171,26 @@ passed-all ns items l p =
 
 -- ---- what numbers say
 
-module _ (n : ℕ) (ns : List ℕ) (f : Fields) (m : kind.Message) (h : numbersFit ns ≡ true) (ef : f ≡ fieldsFrom ns) (em : messageOf f ≡ known.Known m) where
-  pub stated-message : allZero (drop (rowsFirst + 2 * rowsHeld m n) ns) ≡ true → stated n ns ≡ Message (getD ns 0 0) (envelopeOf f m)
-  unfolding stated statedAs
-  stated-message z = rw (h, ← ef, em, z, ef)
+-- fitting numbers are a message exactly if every number after the rows of their kind is 0 and their fields say one
+stated-known : (n : ℕ) (ns : List ℕ) → numbersFit ns ≡ true
+    → isStated (stated n ns) ≡ allZero (drop (rowsFirst + 2 * rowsOfKind (fieldsFrom ns .kind) n) ns) && isKnown (messageOf (fieldsFrom ns))
+unfolding stated statedAs isStated isKnown
+stated-known n ns h = rw h (said (messageOf (fieldsFrom ns)) refl)
+  where
+    zero-after : ℕ → Bool
+    zero-after k = allZero (drop (rowsFirst + 2 * k) ns)
 
-  pub stated-stray : allZero (drop (rowsFirst + 2 * rowsHeld m n) ns) ≡ false → stated n ns ≡ Refused
-  unfolding stated statedAs
-  stated-stray z = rw (h, ← ef, em, z)
+    stated-if : (t : Bool) (e : Envelope) → isStated (cond t (Message (getD ns 0 0) e) Refused) ≡ t && true
+    stated-if true e = refl
+    stated-if false e = refl
+
+    said : (k : Known) → messageOf (fieldsFrom ns) ≡ k → isStated (statedAs n k ns) ≡ zero-after (rowsOfKind (fieldsFrom ns .kind) n) && isKnown k
+    said known.Unknown e = sym (and-false (zero-after (rowsOfKind (fieldsFrom ns .kind) n)))
+    said (known.Known m) e =
+        stated-if (zero-after (rowsHeld m n)) (envelopeOf (fieldsFrom ns) m)
+        ∙ ap (λ (k : ℕ). zero-after k && true) (rows-read (fieldsFrom ns) m n e)
+
+-- with the fields and their rows as they were read
+pub stated-by : (n : ℕ) (ns : List ℕ) (f : Fields) (held : ℕ) → numbersFit ns ≡ true → f ≡ fieldsFrom ns → held ≡ rowsOfKind (f .kind) n
+    → isStated (stated n ns) ≡ allZero (drop (rowsFirst + 2 * held) ns) && isKnown (messageOf f)
+stated-by n ns f held h ef eh = rw (eh, ef) (stated-known n ns h)

@@ -15,6 +15,7 @@ use Rattle.kinds.specs.declared.Known.{Known}
 use Rattle.kinds.specs.declared.Known.the-variants as known
 use Rattle.record.specs.Layout.{nextOf, rowsOf}
 use Rattle.record.specs.Record.{envelopeOf, recordBytes, readRecord}
+unfoldable pub use Rattle.readable.specs.Readable.{isFound}
 use Rattle.record.specs.declared.Reading.{Reading}
 use Rattle.record.specs.declared.Reading.the-variants.{Found, Fault}
 use Rattle.numbers.specs.declared.Stated.{Stated}
@@ -103,10 +104,6 @@ unfoldable pub numbersBytes : ℕ → List ℕ → List ℕ
 numbersBytes n ns = bytesAs n (stated n ns) ns
 
 -- whether they are a record
-unfoldable pub isFound : Reading → Bool
-isFound Fault = false
-isFound (Found e) = true
-
 unfoldable pub isStated : Stated → Bool
 isStated Refused = false
 isStated (Message next e) = true

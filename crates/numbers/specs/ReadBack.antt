@@ -19,7 +19,7 @@ use Rattle.kinds.specs.Kind.{fieldsOf, messageOf, rowsHeld}
 use Rattle.kinds.specs.declared.Fields.{Fields}
 use Rattle.kinds.specs.declared.Known.{Known}
 use Rattle.kinds.specs.declared.Known.the-variants as known
-use Rattle.layout.specs.Layout.{padded, heldRows}
+use Rattle.layout.specs.Layout.{padded, heldRows, layoutBytes}
 use Rattle.record.specs.Layout.{nextOf, rowsOf}
 use Rattle.record.specs.Record.{envelopeOf, recordBytes, readRecord}
 use Rattle.record.specs.RoundTrip.{ItemFits, RowsFit, FieldsFit, Fits, ReadsBack, reads-back, fields-again}
@@ -139,3 +139,17 @@ read-back n ns w e =
       ap isFound found,
       (λ i. numbersAs (found i) (b i)) ∙ (λ i. numbersOf (q .2 i) (fa i) (rows i)) ∙ numbers-again ns (s .fit .long),
     )
+
+-- ---- the bytes straight from the numbers
+
+pub stated-fits : (n : ℕ) (ns : List ℕ) → isStated (stated n ns) ≡ true → Fit ns
+stated-fits n ns e = stated-is n ns e .fit
+
+-- numbers that are a message are the fields and rows of its bytes as they stand: what it does not use is 0 in them
+pub bytes-straight : (n : ℕ) (ns : List ℕ) → isStated (stated n ns) ≡ true → layoutBytes (getD ns 0 0) (fieldsFrom ns) (rowsFrom ns) ≡ numbersBytes n ns
+unfolding numbersBytes bytesAs recordBytes heldRows rowsFrom
+bytes-straight n ns e =
+    let s = stated-is n ns e in
+    let f = fields-again (fieldsFrom ns) (s .message) (s .says) in
+    let r = held-are maxNodes (rowsHeld (s .message) n) ns rowsFirst (s .zeroed) in
+    sym (ap (λ (t : Stated). bytesAs n t ns) (s .is) ∙ (λ i. layoutBytes (getD ns 0 0) (f i) (r i)))

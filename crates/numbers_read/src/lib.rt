@@ -1,22 +1,19 @@
-// The message that numbers say, or that they are refused. Everything is proved, no public function has a
-// `requires`, and each gives what one definition of the crate `numbers` says.
+// Whether numbers are a message, and its fields. Everything is proved, no public function has a `requires`, and each gives
+// what one definition of the crate `numbers` says. No message is built.
 use item::Attempt;
 use item::Incarnation;
 use item::Index;
 use item::Item;
 use item::Tag;
 use kinds::Fields;
-use kinds::Known;
-use message::Envelope;
 use numbers::COUNT;
 use numbers::ROWS_FIRST;
-use numbers::Stated;
 ghost use Prim.Native.Nat.{_≤_};
 ghost use mathlib.Core.Path.{_≡_};
 ghost use mathlib.Core.Bool.{true};
 ghost use lib.ListN.{drop, length};
 ghost use Rattle.endian.specs.Zero.{allZero};
-ghost use Rattle.numbers.specs.Numbers.{fieldsFrom, numbersFit, stated};
+ghost use Rattle.numbers.specs.Numbers.{fieldsFrom, isStated, numbersFit, stated};
 
 // Whether there are as many numbers as a record has, and each fits its field.
 fn fit(numbers: &[u64]) -> bool
@@ -50,7 +47,7 @@ fn fit(numbers: &[u64]) -> bool
 }
 
 // The fields that numbers say, where they fit.
-fn fields_in(numbers: &[u64]) -> Fields
+fn fitting_fields(numbers: &[u64]) -> Fields
     requires { ⌜ numbersFit (now numbers) ≡ true ⌝ }
     ensures { λ r. ⌜ r ≡ fieldsFrom (now (numbers .entry)) ⌝ }
 {
@@ -68,45 +65,49 @@ fn fields_in(numbers: &[u64]) -> Fields
     }
 }
 
-// Whether every number from a place on is 0.
+// The fields that numbers say, where they fit; else those of no record.
+pub fn fields_in(numbers: &[u64]) -> Fields
+    ensures { λ r. ⌜ (numbersFit (now (numbers .entry)) ≡ true → r ≡ fieldsFrom (now (numbers .entry))) ⌝ }
+{
+    if !fit(numbers) {
+        return Fields {
+            kind: 0,
+            sender: 0,
+            addressee: 0,
+            incarnation: Incarnation(0),
+            other: Incarnation(0),
+            attempt: Attempt(0),
+            item: Item::zero(),
+        };
+    }
+    fitting_fields(numbers)
+}
+
+// Whether every number from a place on is 0. All are looked at, by one loop without a way out, which the compiler widens.
 fn zero_from(numbers: &[u64], from: usize) -> bool
     requires { ⌜ from ≤ length (now numbers) ⌝ }
     ensures { λ r. ⌜ r ≡ allZero (drop from (now (numbers .entry))) ⌝ }
 {
+    let mut joined: u64 = 0;
     let mut i = from;
     while i < numbers.len() {
-        if numbers[i] != 0 {
-            return false;
-        }
+        joined = joined | numbers[i];
         i += 1;
     }
-    true
+    joined == 0
 }
 
-// The message that numbers say in a group of `n`, or that they are refused. Its rows are `rows_in`.
-pub fn message_in(numbers: &[u64], n: usize) -> Stated
-    ensures { λ r. ⌜ r ≡ stated n (now (numbers .entry)) ⌝ }
+// Whether numbers are a message in a group of `n`. Its fields are `fields_in`, its rows `rows_in` of crate `numbers_rows`.
+pub fn is_stated(numbers: &[u64], n: usize) -> bool
+    ensures { λ r. ⌜ r ≡ isStated (stated n (now (numbers .entry))) ⌝ }
 {
     if !fit(numbers) {
-        return Stated::Refused;
+        return false;
     }
-    let next = numbers[0] as u16;
-    let fields = fields_in(numbers);
-    let Known::Known(message) = kinds_read::message_of(fields) else {
-        return Stated::Refused;
-    };
-    let from = ROWS_FIRST + 2 * held_rows::rows_held(message, n);
+    let fields = fitting_fields(numbers);
+    let from = ROWS_FIRST + 2 * readable::rows_of_kind(fields.kind, n);
     if !zero_from(numbers, from) {
-        return Stated::Refused;
+        return false;
     }
-    let incarnation = fields.incarnation;
-    Stated::Message {
-        next: next,
-        envelope: Envelope {
-            sender: fields.sender,
-            addressee: fields.addressee,
-            incarnation: incarnation,
-            message: message,
-        },
-    }
+    kinds_read::is_known(fields)
 }

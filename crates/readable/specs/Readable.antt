@@ -8,8 +8,6 @@ use lib.ListN.{length, getD, drop}
 use Rattle.item.specs.Maxima.{maxNodes}
 use Rattle.endian.specs.Zero.{allZero}
 use Rattle.kinds.specs.Kind.{tableKind}
-use Rattle.kinds.specs.declared.Known.{Known}
-use Rattle.kinds.specs.declared.Known.the-variants as known
 use Rattle.layout.specs.Layout.{recordSize, kindAt, rowsAt, rowSize}
 use Rattle.record.specs.Record.{readRecord}
 use Rattle.record.specs.declared.Reading.{Reading}
@@ -24,11 +22,6 @@ unfoldable pub readable : ℕ → List ℕ → Bool
 readable n r = isFound (readRecord n r)
 
 -- ---- the same by kind and fields
-
--- whether fields say a message
-unfoldable pub isKnown : Known → Bool
-isKnown known.Unknown = false
-isKnown (known.Known m) = true
 
 -- "Only Table has rows: n of them"
 unfoldable pub rowsOfKind : ℕ → ℕ → ℕ

@@ -1,7 +1,7 @@
 -- Laws of readable records: a record is readable exactly if its fields say a message and every byte after its rows is zero.
 use Prim.Native.Nat.{ℕ, _+_, _*_, _≤_}
 use mathlib.Core.Path.{_≡_, refl, sym, ap, _∙_}
-use mathlib.Core.Bool.{Bool, true, false, false≢true}
+use mathlib.Core.Bool.{true, false, false≢true}
 use mathlib.Core.List.{List}
 use native.Mathlib.Omega.{arith}
 use lib.Dec.{eqb}
@@ -12,7 +12,7 @@ use Rattle.message.specs.declared.Message.{Message}
 use Rattle.message.specs.declared.Message.the-variants.{Store, Stored, Confirm, Confirmed, Fetch, Table}
 use Rattle.message.specs.declared.Envelope.{Envelope}
 use Rattle.endian.specs.Zero.{allZero}
-use Rattle.kinds.specs.Kind.{tableKind, kindOf, fieldsOf, messageOf, rowsHeld, knownIf}
+use Rattle.kinds.specs.Kind.{tableKind, kindOf, fieldsOf, messageOf, rowsHeld}
 use Rattle.kinds.specs.declared.Fields.{Fields}
 use Rattle.kinds.specs.declared.Known.{Known}
 use Rattle.kinds.specs.declared.Known.the-variants as known
@@ -21,13 +21,8 @@ use Rattle.record.specs.Record.{readRecord, readAs, zeroAfterRows, envelopeOf}
 use Rattle.record.specs.RoundTrip.{fields-again}
 use Rattle.record.specs.declared.Reading.{Reading}
 use Rattle.record.specs.declared.Reading.the-variants.{Found, Fault}
-use Rattle.readable.specs.Readable.{isFound, readable, isKnown, rowsOfKind, zeroAfterKind}
-
--- a test in the definition of the message that fields say
-pub known-if : (t : Bool) (m : Message) → isKnown (knownIf t m) ≡ t
-unfolding isKnown
-known-if true m = refl
-known-if false m = refl
+use Rattle.kinds_read.specs.Known.{isKnown}
+use Rattle.readable.specs.Readable.{isFound, readable, rowsOfKind, zeroAfterKind}
 
 pub rows-of-kind-most : (kind n : ℕ) → rowsOfKind kind n ≤ maxNodes
 unfolding rowsOfKind

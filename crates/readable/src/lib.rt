@@ -1,24 +1,17 @@
 // Whether the bytes of one record, as a slice of its own, are a message. Everything is proved, no public function has a
 // `requires`, and each gives what one definition of specs/ says. No message is built: the kind, the fields that it does not
 // use and the bytes after its rows are looked at where they stand, since a pass over a store asks this of every record.
-use kinds::CONFIRM;
-use kinds::CONFIRMED;
-use kinds::FETCH;
-use kinds::STORE;
-use kinds::STORED;
 use kinds::TABLE;
 ghost use mathlib.Core.Path.{_≡_};
 ghost use Prim.Native.Nat.{_+_, _*_, _≤_};
 ghost use lib.ListN.{length, drop};
 ghost use Rattle.item.specs.Maxima.{maxNodes};
-ghost use Rattle.counters.specs.Counter.{sameIncarnation};
 ghost use Rattle.endian.specs.Zero.{allZero};
-ghost use Rattle.kinds.specs.Kind.{messageOf, noWrite, noIncarnation};
-ghost use Rattle.layout.specs.Layout.{recordSize, rowsAt, rowSize, fieldsIn};
-ghost use Rattle.readable.specs.Readable.{readable, isKnown, rowsOfKind, zeroAfterKind};
+ghost use Rattle.layout.specs.Layout.{recordSize, rowsAt, rowSize};
+ghost use Rattle.readable.specs.Readable.{readable, rowsOfKind, zeroAfterKind};
 
 // How many rows a record of this kind has in a group of `n`.
-fn rows_of_kind(kind: u8, n: usize) -> usize
+pub fn rows_of_kind(kind: u8, n: usize) -> usize
     ensures { λ r. ⌜ r ≡ rowsOfKind kind n ⌝ }
 {
     if kind != TABLE {
@@ -59,47 +52,6 @@ pub fn zero_after_rows(r: &[u8], n: usize) -> bool
     zero_from_row(r, rows_of_kind(r[layout::KIND_AT], n))
 }
 
-// Whether the other incarnation is 0.
-fn no_other(r: &[u8]) -> bool
-    ensures { λ b. ⌜ b ≡ sameIncarnation (fieldsIn (now (r .entry)) .other) noIncarnation ⌝ }
-{
-    endian_read::read_u32(r, layout::OTHER_AT) == 0
-}
-
-// Whether there is neither attempt nor item.
-fn no_write(r: &[u8]) -> bool
-    ensures { λ b. ⌜ b ≡ noWrite (fieldsIn (now (r .entry)) .attempt) (fieldsIn (now (r .entry)) .item) ⌝ }
-{
-    if endian_read::read_u32(r, layout::ATTEMPT_AT) != 0 {
-        return false;
-    }
-    if endian_read::read_u64(r, layout::ITEM_AT) != 0 {
-        return false;
-    }
-    endian_read::read_u64(r, layout::ITEM_AT + layout::INDEX_SIZE) == 0
-}
-
-// Whether the kind is known and the fields that it does not use are 0.
-fn is_known(r: &[u8]) -> bool
-    requires { ⌜ length (now r) ≡ recordSize ⌝ }
-    ensures { λ b. ⌜ b ≡ isKnown (messageOf (fieldsIn (now (r .entry)))) ⌝ }
-{
-    match r[layout::KIND_AT] {
-        STORE => no_other(r),
-        STORED => true,
-        CONFIRM => true,
-        CONFIRMED => true,
-        FETCH => {
-            if !no_other(r) {
-                return false;
-            }
-            no_write(r)
-        }
-        TABLE => no_write(r),
-        _ => false,
-    }
-}
-
 // Whether the bytes are a message in a group of `n`. Sender, addressee and next are not judged.
 pub fn is_readable(r: &[u8], n: usize) -> bool
     ensures { λ b. ⌜ b ≡ readable n (now (r .entry)) ⌝ }
@@ -107,5 +59,5 @@ pub fn is_readable(r: &[u8], n: usize) -> bool
     if !zero_after_rows(r, n) {
         return false;
     }
-    is_known(r)
+    kinds_read::is_known(decoding::read_fields(r))
 }

@@ -1,10 +1,11 @@
 -- Laws of one record at the boundary: each way out of the two calls.
-use Prim.Native.Nat.{ℕ, _+_, _*_, _≤_, _<_}
+use Prim.Native.Nat.{ℕ, _+_, _-_, _*_, _≤_, _<_}
 use native.Mathlib.Omega.{arith}
 use mathlib.Core.Path.{_≡_, ap, _∙_}
 use mathlib.Core.Bool.{true, false}
 use mathlib.Core.List.{List}
-use lib.ListN.{length, length-append}
+use lib.ListN.{length, length-append, getD, take, drop}
+use borrow.Rule.Slice.PartMut.{putMid}
 use borrow.Author.Tests.{eq-eqb, ne-eqb, le-leb, lt-leb}
 use Rattle.item.specs.Maxima.{maxNodes}
 use Rattle.item.specs.declared.Item.{Item}
@@ -13,13 +14,14 @@ use Rattle.endian.specs.Part.{withPart}
 use Rattle.endian.specs.PartLaws.{with-all}
 use Rattle.kinds.specs.Kind.{fieldsOf}
 use Rattle.kinds.specs.declared.Fields.{Fields}
-use Rattle.layout.specs.Layout.{rowsAt, rowsOf, nextOf}
-use Rattle.layout.specs.LayoutLaws.{length-items}
-use Rattle.numbers.specs.Numbers.{numberCount, fieldNumbers, rowNumbers, numbersOf, rowsFrom, stated, numbersAs, recordNumbers, bytesAs, numbersBytes, isFound, isStated}
-use Rattle.numbers.specs.NumberLaws.{length-field-numbers, length-row-numbers}
-use Rattle.numbers.specs.declared.Stated.the-variants.{Message, Refused}
+use Rattle.layout.specs.Layout.{rowsAt, rowsOf, nextOf, nextAt, layoutBytes}
+use Rattle.layout.specs.LayoutLaws.{length-items, length-layout}
+use Rattle.numbers.specs.Numbers.{numberCount, rowsFirst, fieldNumbers, rowNumbers, numbersOf, fieldsFrom, rowsFrom, stated, numbersAs, recordNumbers, numbersBytes, isFound, isStated}
+use Rattle.numbers.specs.NumberLaws.{length-field-numbers, length-row-numbers, length-rows-from}
+use Rattle.numbers.specs.ReadBack.{bytes-straight}
 use Rattle.record.specs.Layout.{recordSize, recordOf, withRecord}
-use Rattle.record.specs.Record.{recordBytes, readRecord}
+use Rattle.record.specs.Record.{readRecord}
+use Rattle.record.specs.RecordLaws.{length-record-of, record-lent, record-back}
 use Rattle.record.specs.declared.Reading.the-variants.{Found, Fault}
 use Rattle.record_numbers.specs.Records.{mayRead, numbersRead, mayWrite, bytesWritten}
 
@@ -60,14 +62,24 @@ module _ (s : List ℕ) (i n : ℕ) (ns : List ℕ) where
   unfolding mayWrite bytesWritten
   write-none h = (rw (lt-leb (i * recordSize + recordSize) (length s) h), rw (lt-leb (i * recordSize + recordSize) (length s) h))
 
-  pub write-refused : i * recordSize + recordSize ≤ length s → stated n ns ≡ Refused → (false ≡ mayWrite s i n ns) × (s ≡ bytesWritten s i n ns)
-  unfolding mayWrite bytesWritten isStated
+  pub write-refused : i * recordSize + recordSize ≤ length s → isStated (stated n ns) ≡ false → (false ≡ mayWrite s i n ns) × (s ≡ bytesWritten s i n ns)
+  unfolding mayWrite bytesWritten
   write-refused h q = (rw (le-leb (i * recordSize + recordSize) (length s) h, q), rw (le-leb (i * recordSize + recordSize) (length s) h, q))
 
-  pub write-message : {next : ℕ} {e : Envelope} (rows : List Item) → i * recordSize + recordSize ≤ length s → stated n ns ≡ Message next e → rows ≡ rowsFrom ns
-      → (true ≡ mayWrite s i n ns) × (withRecord s i (recordBytes n next e rows) ≡ bytesWritten s i n ns)
-  unfolding mayWrite bytesWritten isStated numbersBytes bytesAs
-  write-message rows h q er = (
-    rw (le-leb (i * recordSize + recordSize) (length s) h, q),
-    rw (er, le-leb (i * recordSize + recordSize) (length s) h, q),
-  )
+  -- what the numbers say stands in the record as it is, and comes back with the part lent
+  pub write-stated : (next : ℕ) (f : Fields) (rows : List Item) → i * recordSize + recordSize ≤ length s → isStated (stated n ns) ≡ true
+      → next ≡ getD ns 0 0 → f ≡ fieldsFrom ns → rows ≡ rowsFrom ns
+      → (true ≡ mayWrite s i n ns) × (putMid (i * recordSize) (i * recordSize + recordSize - i * recordSize) s
+      (withPart recordSize (take (i * recordSize + recordSize - i * recordSize) (drop (i * recordSize) s)) nextAt (layoutBytes next f rows)) ≡ bytesWritten s i n ns)
+  unfolding mayWrite bytesWritten
+  write-stated next f rows h q en ef er =
+      let whole : List ℕ = layoutBytes next f rows in
+      let long : length whole ≡ recordSize = length-layout next f rows (ap length er ∙ length-rows-from ns) in
+      let is : whole ≡ numbersBytes n ns = (λ j. layoutBytes (en j) (ef j) (er j)) ∙ bytes-straight n ns q in (
+        rw (le-leb (i * recordSize + recordSize) (length s) h, q),
+        ap (putMid (i * recordSize) (i * recordSize + recordSize - i * recordSize) s)
+            (ap (λ (r : List ℕ). withPart recordSize r nextAt whole) (record-lent s i h) ∙ with-all recordSize (recordOf s i) whole (length-record-of s i h) long)
+            ∙ record-back s i whole h
+            ∙ ap (withRecord s i) is
+            ∙ rw (le-leb (i * recordSize + recordSize) (length s) h, q),
+      )

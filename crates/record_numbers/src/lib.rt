@@ -1,8 +1,8 @@
 // One record of lent bytes as the 39 numbers of crate `numbers`, read and written. Everything is proved, no public function
 // has a `requires`, and each gives what one definition of specs/ says.
 use numbers::COUNT;
-use numbers::Stated;
-use numbers_read::message_in;
+use numbers_read::fields_in;
+use numbers_read::is_stated;
 use numbers_rows::rows_in;
 use numbers_write::put;
 use record::Reading;
@@ -40,11 +40,13 @@ pub fn write_record(bytes: &mut [u8], record: u64, n: u64, numbers: &[u64]) -> b
     if bytes.len() / SIZE <= i {
         return false;
     }
-    let size = n as usize;
-    let Stated::Message { next, envelope } = message_in(numbers, size) else {
+    if !is_stated(numbers, n as usize) {
         return false;
-    };
+    }
+    let next = numbers[0] as u16;
+    let fields = fields_in(numbers);
     let rows = rows_in(numbers);
-    record_write::write(bytes, i, size, next, envelope, rows);
+    let a = i * SIZE;
+    encoding::write_record(&mut bytes[a..a + SIZE], next, fields, rows);
     true
 }

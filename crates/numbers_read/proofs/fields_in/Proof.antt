@@ -1,66 +1,26 @@
--- `numbers_read::fields_in` meets its contract: each number is there and fits its field, as `fit-is` says.
-use native.Mathlib.Omega.{arith}
-use mathlib.Core.Path.{refl}
-use Rattle.numbers.specs.Numbers.{fieldsFrom}
-use Rattle.numbers.specs.NumberLaws.{fit-is}
+-- `numbers_read::fields_in` meets its contract: nothing is said of numbers that do not fit.
+use mathlib.Core.Path.{sym, _∙_}
+use mathlib.Core.Bool.{false≢true}
+use Rattle.item.specs.Tests.{refuted, granted}
 use borrow.Author.Needs.{needs}
 use Rattle.numbers_read.proofs.fields_in.Statement.{statement}
 use Rattle.numbers_read.proofs.fields_in.Tie as tie
 
-shared-slice-read-t3 : tie.Need-shared-slice-read-t3
-shared-slice-read-t3 c = let f = fit-is _ (c .before .pre) in omega (arith, f .long)
+fit-requires : tie.Need-fit-requires
+fit-requires c κs = search needs
 
-cast-t4 : tie.Need-cast-t4
-cast-t4 c = let f = fit-is _ (c .before .pre) in omega (arith, f .kind)
-
-shared-slice-read-t6 : tie.Need-shared-slice-read-t6
-shared-slice-read-t6 c = let f = fit-is _ (c .before .before .pre) in omega (arith, f .long)
-
-shared-slice-read-t9 : tie.Need-shared-slice-read-t9
-shared-slice-read-t9 c = let f = fit-is _ (c .before .before .before .pre) in omega (arith, f .long)
-
-shared-slice-read-t12 : tie.Need-shared-slice-read-t12
-shared-slice-read-t12 c = let f = fit-is _ (c .before .before .before .before .pre) in omega (arith, f .long)
-
-cast-t13 : tie.Need-cast-t13
-cast-t13 c = let f = fit-is _ (c .before .before .before .before .pre) in omega (arith, f .incarnation)
-
-shared-slice-read-t16 : tie.Need-shared-slice-read-t16
-shared-slice-read-t16 c = let f = fit-is _ (c .before .before .before .before .before .pre) in omega (arith, f .long)
-
-cast-t17 : tie.Need-cast-t17
-cast-t17 c = let f = fit-is _ (c .before .before .before .before .before .pre) in omega (arith, f .other)
-
-shared-slice-read-t20 : tie.Need-shared-slice-read-t20
-shared-slice-read-t20 c = let f = fit-is _ (c .before .before .before .before .before .before .pre) in omega (arith, f .long)
-
-cast-t21 : tie.Need-cast-t21
-cast-t21 c = let f = fit-is _ (c .before .before .before .before .before .before .pre) in omega (arith, f .attempt)
-
-shared-slice-read-t24 : tie.Need-shared-slice-read-t24
-shared-slice-read-t24 c = let f = fit-is _ (c .before .before .before .before .before .before .before .pre) in omega (arith, f .long)
-
-shared-slice-read-t27 : tie.Need-shared-slice-read-t27
-shared-slice-read-t27 c = let f = fit-is _ (c .before .before .before .before .before .before .before .before .pre) in omega (arith, f .long)
+zero-requires : tie.Need-zero-requires
+zero-requires c κs = search needs
 
 returns : tie.Need-returns
-unfolding fieldsFrom
-returns c = refl
+returns c e = absurd (false≢true (sym (refuted (c .before .before .fit .ensures) (c .before .if1 .taken)) ∙ e))
+
+fitting-fields-requires : tie.Need-fitting-fields-requires
+fitting-fields-requires c κs = granted (c .before .fit .ensures) (c .if1 .left)
+
+returns-2 : tie.Need-returns-2
+returns-2 c e = c .fitting-fields .ensures
 
 pub fields-in-spec : {M : Type 1} → statement M
 fields-in-spec =
-    tie.close
-    (tie.spec
-    shared-slice-read-t3
-    cast-t4
-    shared-slice-read-t6
-    shared-slice-read-t9
-    shared-slice-read-t12
-    cast-t13
-    shared-slice-read-t16
-    cast-t17
-    shared-slice-read-t20
-    cast-t21
-    shared-slice-read-t24
-    shared-slice-read-t27
-    returns)
+    tie.close (tie.spec fit-requires zero-requires returns fitting-fields-requires returns-2)
