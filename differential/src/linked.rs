@@ -45,7 +45,7 @@ impl Contender for Linked {
 
 /// The letter that a record's numbers stand for; nothing if one of them does
 /// not fit its field or is no kind, which the library never gives.
-fn letter(record: &Record) -> Option<Letter> {
+pub fn letter(record: &Record) -> Option<Letter> {
     let other = Incarnation(u32::try_from(record.other).ok()?);
     let attempt = Attempt(u32::try_from(record.attempt).ok()?);
     let incarnation = Incarnation(u32::try_from(record.incarnation).ok()?);

@@ -10,7 +10,9 @@ use baseline::layout::{self, or_of_words, RECORD_BYTES};
 use baseline::scripts::{self, Random};
 use baseline::store::STORE_BYTES;
 
-use crate::linked::{record, Linked};
+use yagvost::Record;
+
+use crate::linked::{letter, record, Linked};
 
 /// How often each measure is taken, and for how long.
 #[derive(Clone, Copy, Debug)]
@@ -62,6 +64,23 @@ impl Pair {
     }
 }
 
+/// What the baseline reads a record into and writes it from: a letter, which is
+/// its own form, or the numbers that the library gives and takes.
+#[derive(Clone, Copy, Debug, PartialEq, Eq)]
+pub enum Form {
+    Own,
+    Numbers,
+}
+
+impl Form {
+    fn words(self) -> &'static str {
+        match self {
+            Form::Own => ", the baseline as a letter",
+            Form::Numbers => " as numbers",
+        }
+    }
+}
+
 /// Times both, and the floor beside them.
 pub struct Stopwatch {
     effort: Effort,
@@ -103,38 +122,64 @@ impl Stopwatch {
         })
     }
 
-    /// One record of this kind, 1 to 6, read: by the baseline as a letter, by
-    /// the library as numbers, the form that each gives.
-    pub fn reading(&mut self, kind: u8, name: &str) -> Pair {
+    /// One record of this kind, 1 to 6, read. The library gives numbers.
+    pub fn reading(&mut self, kind: u8, name: &str, form: Form) -> Pair {
         let mut random = Random::new(kind.into());
         let records: Vec<_> = (0..64).map(|_| scripts::record(&mut random, kind, 15)).collect();
-        self.time(format!("read {name}"), records.len(), |is_library| {
-            for record in &records {
-                match is_library {
-                    false => assert!(black_box(layout::read_record(black_box(record), 15)).is_ok()),
-                    true => {
-                        assert!(black_box(yagvost::read_record(black_box(record), 0, 15)).is_some())
+        let mut numbers = Record::default();
+        let mut library = |bytes: &[u8]| {
+            assert!(yagvost::read_record_into(bytes, 0, 15, black_box(&mut numbers)));
+        };
+        let what = format!("read {name}{}", form.words());
+        match form {
+            Form::Own => self.time(what, records.len(), |is_library| {
+                for bytes in &records {
+                    match is_library {
+                        false => {
+                            assert!(black_box(layout::read_record(black_box(bytes), 15)).is_ok())
+                        }
+                        true => library(black_box(bytes)),
                     }
                 }
-            }
-        })
+            }),
+            Form::Numbers => self.time(what, records.len(), |is_library| {
+                for bytes in &records {
+                    match is_library {
+                        false => assert!(black_box(numbers_of(black_box(bytes))).is_some()),
+                        true => library(black_box(bytes)),
+                    }
+                }
+            }),
+        }
     }
 
-    /// One record of this kind, 1 to 6, written from the same forms.
-    pub fn writing(&mut self, kind: u8, name: &str) -> Pair {
+    /// One record of this kind, 1 to 6, written. The library takes numbers.
+    pub fn writing(&mut self, kind: u8, name: &str, form: Form) -> Pair {
         let mut random = Random::new(kind.into());
         let letters: Vec<_> = (0..64).map(|_| scripts::letter(&mut random, kind, 15)).collect();
         let numbers: Vec<_> = letters.iter().map(record).collect();
         let mut bytes = [0; RECORD_BYTES];
-        self.time(format!("write {name}"), letters.len(), |is_library| {
-            for (letter, numbers) in letters.iter().zip(&numbers) {
-                let to = black_box(&mut bytes[..]);
-                assert!(match is_library {
-                    false => layout::write_record(to, black_box(letter), 15).is_ok(),
-                    true => yagvost::write_record(to, 0, 15, black_box(numbers)),
-                });
-            }
-        })
+        let what = format!("write {name}{}", form.words());
+        match form {
+            Form::Own => self.time(what, letters.len(), |is_library| {
+                for (letter, numbers) in letters.iter().zip(&numbers) {
+                    let to = black_box(&mut bytes[..]);
+                    assert!(match is_library {
+                        false => layout::write_record(to, black_box(letter), 15).is_ok(),
+                        true => yagvost::write_record(to, 0, 15, black_box(numbers)),
+                    });
+                }
+            }),
+            Form::Numbers => self.time(what, letters.len(), |is_library| {
+                for numbers in &numbers {
+                    let to = black_box(&mut bytes[..]);
+                    assert!(match is_library {
+                        false => write_numbers(to, black_box(numbers)),
+                        true => yagvost::write_record(to, 0, 15, black_box(numbers)),
+                    });
+                }
+            }),
+        }
     }
 
     /// Both in turn, after a round each that does not count. A round has so
@@ -154,6 +199,18 @@ impl Stopwatch {
         }
         pair
     }
+}
+
+/// The baseline's letter in a record as the library's numbers.
+#[inline(never)]
+fn numbers_of(bytes: &[u8; RECORD_BYTES]) -> Option<Record> {
+    layout::read_record(bytes, 15).ok().map(|letter| record(&letter))
+}
+
+/// The library's numbers written as a record by the baseline.
+#[inline(never)]
+fn write_numbers(to: &mut [u8], numbers: &Record) -> bool {
+    letter(numbers).is_some_and(|letter| layout::write_record(to, &letter, 15).is_ok())
 }
 
 /// The time of one step: rounds are run until this much time has passed, at

@@ -7,7 +7,7 @@ use std::fs;
 use std::process::ExitCode;
 
 use baseline::scripts::settling;
-use differential::timing::{end_to_end, Effort, Pair, Stopwatch};
+use differential::timing::{end_to_end, Effort, Form, Pair, Stopwatch};
 use differential::KINDS;
 
 /// The group sizes measured, and the numbers of messages held.
@@ -42,15 +42,34 @@ fn main() -> ExitCode {
 }
 
 /// Everything measured in the process. The lists of lines and checks go by
-/// group size and then by messages held, those of records by kind.
+/// group size and then by messages held.
 struct Measures {
     effort: Effort,
     lines: Vec<Vec<Pair>>,
     checks: Vec<Vec<Pair>>,
-    reads: Vec<Pair>,
-    writes: Vec<Pair>,
+    numbers: Records,
+    letters: Records,
     floor: f64,
     floor_spread: f64,
+}
+
+/// One record read and one written, by kind.
+struct Records {
+    reads: Vec<Pair>,
+    writes: Vec<Pair>,
+}
+
+impl Records {
+    fn take(watch: &mut Stopwatch, form: Form) -> Records {
+        let kinds = || (1..).zip(KINDS);
+        let reads = kinds().map(|(kind, name)| watch.reading(kind, name, form)).collect();
+        let writes = kinds().map(|(kind, name)| watch.writing(kind, name, form)).collect();
+        Records { reads, writes }
+    }
+
+    fn all(&self) -> impl Iterator<Item = &Pair> {
+        self.reads.iter().chain(&self.writes)
+    }
 }
 
 impl Measures {
@@ -58,11 +77,10 @@ impl Measures {
         let mut watch = Stopwatch::new(effort);
         let lines = grid(|n, held| watch.event(n, held));
         let checks = grid(|n, held| watch.check(n, held));
-        let kinds = || (1..).zip(KINDS);
-        let reads = kinds().map(|(kind, name)| watch.reading(kind, name)).collect();
-        let writes = kinds().map(|(kind, name)| watch.writing(kind, name)).collect();
+        let numbers = Records::take(&mut watch, Form::Numbers);
+        let letters = Records::take(&mut watch, Form::Own);
         let (floor, floor_spread) = (watch.floor.best(), watch.floor.spread());
-        Measures { effort, lines, checks, reads, writes, floor, floor_spread }
+        Measures { effort, lines, checks, numbers, letters, floor, floor_spread }
     }
 
     fn print(&self) {
@@ -77,8 +95,10 @@ impl Measures {
         self.print_pairs(self.lines.iter().flatten());
         println!("Soundness checks:\n");
         self.print_pairs(self.checks.iter().flatten());
-        println!("Records of a group of 15:\n");
-        self.print_pairs(self.reads.iter().chain(&self.writes));
+        println!("Records of a group of 15, from bytes to numbers and back:\n");
+        self.print_pairs(self.numbers.all());
+        println!("The same, but the baseline reads a letter and writes one, its own form:\n");
+        self.print_pairs(self.letters.all());
         self.print_growth();
         self.print_goal();
     }
@@ -128,7 +148,8 @@ impl Measures {
             let lines: Vec<&[u8]> = script.split_inclusive(|byte| *byte == b'\n').collect();
             let delivered = lines.iter().filter(|line| line.starts_with(b"d")).count();
             let messages = delivered as f64 / lines.len() as f64;
-            let cost = messages * (mean(&self.reads[..4]) + mean(&self.writes[..4]));
+            let cost =
+                messages * (mean(&self.numbers.reads[..4]) + mean(&self.numbers.writes[..4]));
             let goal = 1.5 * self.floor + cost;
             let (one, two) = (baseline(&row[0]), library(&row[0]));
             println!(

@@ -9,7 +9,7 @@
 mod calls;
 mod record;
 
-pub use record::{read_record, write_record, Item, Record};
+pub use record::{read_record, read_record_into, write_record, Item, Record};
 
 /// The bytes of one record, the records of a store, and the bytes of a store.
 pub const RECORD_BYTES: usize = 272;

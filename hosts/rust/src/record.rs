@@ -35,9 +35,14 @@ pub struct Record {
 /// The message in a record of these bytes, for a group of n nodes. Nothing if
 /// the record does not lie whole within the bytes, or is not a message.
 pub fn read_record(bytes: &[u8], record: u64, n: u64) -> Option<Record> {
-    let mut numbers = Record::default();
-    let read = lies_within(bytes, record) && calls::read_record(bytes, record, n, &mut numbers);
-    read.then_some(numbers)
+    let mut message = Record::default();
+    read_record_into(bytes, record, n, &mut message).then_some(message)
+}
+
+/// As `read_record`, into numbers that the caller lends. False, and no number
+/// changed, where there is no message.
+pub fn read_record_into(bytes: &[u8], record: u64, n: u64, message: &mut Record) -> bool {
+    lies_within(bytes, record) && calls::read_record(bytes, record, n, message)
 }
 
 /// Write a message over a record of these bytes, for a group of n nodes. False,
