@@ -19,7 +19,10 @@ use Rattle.endian.specs.Part.{withPart}
 use Rattle.endian.specs.PartLaws.{by-order, sets-is, with-joined}
 use Rattle.endian.specs.Zero.{allZero}
 use Rattle.endian.specs.ZeroLaws.{both, or-zero}
+use Rattle.endian.specs.Number.{numberAt}
 use Rattle.kinds.specs.Kind.{messageOf, rowsHeld}
+use Rattle.layout.specs.Layout.{rowsAt, rowSize, indexSize, itemIn, rowsOf}
+use Rattle.layout.specs.LayoutLaws as row-laws
 use Rattle.kinds.specs.declared.Fields.{Fields}
 use Rattle.kinds.specs.declared.Known.the-variants as known
 use Rattle.message.specs.declared.Message as kind
@@ -110,6 +113,23 @@ with-row-more s rows j hs hr h t et lt =
     ∙ ap (λ (l : List ℕ). withPart 2 l (rowsFirst + 2 * j) (x ∷ y ∷ [])) et
     ∙ with-joined (2 * j) 2 s rowsFirst (rowNumbers (take j rows)) (x ∷ y ∷ []) lj refl (omega arith)
     ∙ rw (e, add-one j, rows-more rows j (omega arith))
+
+pub length-rows-in : (r : List ℕ) → length (rowsOf r) ≡ maxNodes
+unfolding rowsOf
+length-rows-in r = row-laws.length-items maxNodes r rowsAt
+
+-- one row more of a record's bytes
+pub with-row-read : (s r : List ℕ) (j : ℕ) → numberCount ≤ length s → j < maxNodes
+    → (t : List ℕ) → t ≡ withPart (2 * j) s rowsFirst (rowNumbers (take j (rowsOf r))) → length t ≡ length s
+    → (x y : ℕ) → x ≡ numberAt 8 r (rowsAt + j * rowSize) → y ≡ numberAt 8 r (rowsAt + j * rowSize + indexSize)
+    → set (set t (rowsFirst + 2 * j) x) (rowsFirst + 2 * j + 1) y ≡ withPart (2 * (j + 1)) s rowsFirst (rowNumbers (take (j + 1) (rowsOf r)))
+unfolding rowsOf itemIn
+with-row-read s r j hs h t et lt x y ex ey =
+    let row : getD (rowsOf r) j zeroItem ≡ itemIn r (rowsAt + j * rowSize) = row-laws.getD-items maxNodes r rowsAt j h in
+    let ix : x ≡ getD (rowsOf r) j zeroItem .index .0 = ex ∙ sym (ap (λ (i : Item). i .index .0) row) in
+    let iy : y ≡ getD (rowsOf r) j zeroItem .tag .0 = ey ∙ sym (ap (λ (i : Item). i .tag .0) row) in
+    (λ i. set (set t (rowsFirst + 2 * j) (ix i)) (rowsFirst + 2 * j + 1) (iy i))
+    ∙ with-row-more s (rowsOf r) j hs (length-rows-in r) h t et lt
 
 -- the fields and then the rows are all
 pub with-all-numbers : (s : List ℕ) (next : ℕ) (f : Fields) (rows : List Item) → numberCount ≤ length s → length rows ≡ maxNodes

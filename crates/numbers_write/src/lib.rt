@@ -1,6 +1,5 @@
 // The numbers of a record put into a lent slice. Everything is proved, no public function has a
 // `requires`, and each gives what one definition of the crate `numbers` says.
-use item::Item;
 use kinds::Fields;
 use numbers::COUNT;
 use numbers::ROWS_FIRST;
@@ -8,6 +7,7 @@ ghost use Prim.Native.Nat.{_≤_};
 ghost use mathlib.Core.Path.{_≡_};
 ghost use lib.ListN.{length};
 ghost use Rattle.endian.specs.Part.{withPart};
+ghost use Rattle.layout.specs.Layout.{rowsOf};
 ghost use Rattle.numbers.specs.Numbers.{fieldNumbers, numberCount, numbersOf, rowNumbers, rowsCount, rowsFirst};
 
 // The numbers before the rows.
@@ -26,28 +26,28 @@ fn put_fields(numbers: &mut [u64], next: u64, fields: Fields)
     numbers[8] = fields.item.tag.0;
 }
 
-// The numbers of the rows.
-fn put_rows(numbers: &mut [u64], rows: [Item; item::MAX_NODES])
+// The numbers of the rows, straight from the bytes of a record.
+fn put_rows(numbers: &mut [u64], r: &[u8])
     requires { ⌜ numberCount ≤ length (now numbers) ⌝ }
-    ensures { λ _. ⌜ now (numbers .exit) ≡ withPart rowsCount (now (numbers .entry)) rowsFirst (rowNumbers rows) ⌝ }
+    ensures { λ _. ⌜ now (numbers .exit) ≡ withPart rowsCount (now (numbers .entry)) rowsFirst (rowNumbers (rowsOf (now (r .entry)))) ⌝ }
 {
     let mut j = 0;
     while j < item::MAX_NODES {
-        let row = rows[j];
+        let place = layout::ROWS_AT + j * layout::ROW_SIZE;
         let at = ROWS_FIRST + 2 * j;
-        numbers[at] = row.index.0;
-        numbers[at + 1] = row.tag.0;
+        numbers[at] = endian_read::read_u64(r, place);
+        numbers[at + 1] = endian_read::read_u64(r, place + layout::INDEX_SIZE);
         j += 1;
     }
 }
 
-// The first 39 of the numbers become those of a record; fewer stay as they are.
-pub fn put(numbers: &mut [u64], next: u64, fields: Fields, rows: [Item; item::MAX_NODES])
-    ensures { λ _. ⌜ now (numbers .exit) ≡ withPart numberCount (now (numbers .entry)) 0 (numbersOf next fields rows) ⌝ }
+// The first 39 of the numbers become next, the fields and the rows that stand in the bytes of a record; fewer stay as they are.
+pub fn put(numbers: &mut [u64], next: u64, fields: Fields, r: &[u8])
+    ensures { λ _. ⌜ now (numbers .exit) ≡ withPart numberCount (now (numbers .entry)) 0 (numbersOf next fields (rowsOf (now (r .entry)))) ⌝ }
 {
     if numbers.len() < COUNT {
         return;
     }
     put_fields(numbers, next, fields);
-    put_rows(numbers, rows);
+    put_rows(numbers, r);
 }

@@ -103,9 +103,9 @@ module _ (n : ℕ) (r : List ℕ) where
 
   -- the message of a readable record
   pub record Holds : Type 0 where
-    envelope : Envelope
-    found : readRecord n r ≡ Found envelope
-    fields : fieldsOf envelope ≡ fieldsIn r
+    pub envelope : Envelope
+    pub found : readRecord n r ≡ Found envelope
+    pub fields : fieldsOf envelope ≡ fieldsIn r
 
   pub holds : readable n r ≡ true → Holds
   unfolding readable isFound

@@ -1,28 +1,29 @@
 -- Laws of one record at the boundary: each way out of the two calls.
 use Prim.Native.Nat.{ℕ, _+_, _-_, _*_, _≤_, _<_}
 use native.Mathlib.Omega.{arith}
-use mathlib.Core.Path.{_≡_, ap, _∙_}
-use mathlib.Core.Bool.{true, false}
+use mathlib.Core.Path.{_≡_, sym, ap, _∙_}
+use mathlib.Core.Bool.{Bool, true, false, cond, and-false}
 use mathlib.Core.List.{List}
+use lib.Dec.{eqb}
 use lib.ListN.{length, length-append, getD, take, drop}
 use borrow.Rule.Slice.PartMut.{putMid}
 use borrow.Author.Tests.{eq-eqb, ne-eqb, le-leb, lt-leb}
 use Rattle.item.specs.Maxima.{maxNodes}
 use Rattle.item.specs.declared.Item.{Item}
-use Rattle.message.specs.declared.Envelope.{Envelope}
 use Rattle.endian.specs.Part.{withPart}
 use Rattle.endian.specs.PartLaws.{with-all}
-use Rattle.kinds.specs.Kind.{fieldsOf}
 use Rattle.kinds.specs.declared.Fields.{Fields}
-use Rattle.layout.specs.Layout.{rowsAt, rowsOf, nextOf, nextAt, layoutBytes}
-use Rattle.layout.specs.LayoutLaws.{length-items, length-layout}
+use Rattle.layout.specs.Layout.{rowsOf, nextOf, nextAt, fieldsIn, layoutBytes}
+use Rattle.layout.specs.LayoutLaws.{length-layout}
 use Rattle.numbers.specs.Numbers.{numberCount, rowsFirst, fieldNumbers, rowNumbers, numbersOf, fieldsFrom, rowsFrom, stated, numbersAs, recordNumbers, numbersBytes, isFound, isStated}
-use Rattle.numbers.specs.NumberLaws.{length-field-numbers, length-row-numbers, length-rows-from}
+use Rattle.numbers.specs.NumberLaws.{length-field-numbers, length-row-numbers, length-rows-from, length-rows-in}
 use Rattle.numbers.specs.ReadBack.{bytes-straight}
 use Rattle.record.specs.Layout.{recordSize, recordOf, withRecord}
 use Rattle.record.specs.Record.{readRecord}
-use Rattle.record.specs.RecordLaws.{length-record-of, record-lent, record-back}
-use Rattle.record.specs.declared.Reading.the-variants.{Found, Fault}
+use Rattle.record.specs.RecordLaws.{record-none, length-record-of, record-lent, record-back}
+use Rattle.record.specs.declared.Reading.{Reading}
+use Rattle.readable.specs.Readable.{readable}
+use Rattle.readable.specs.ReadableLaws.{holds}
 use Rattle.record_numbers.specs.Records.{mayRead, numbersRead, mayWrite, bytesWritten}
 
 length-numbers : (next : ℕ) (f : Fields) (rows : List Item) → length rows ≡ maxNodes → length (numbersOf next f rows) ≡ numberCount
@@ -31,9 +32,15 @@ length-numbers next f rows l =
     let a = length-append (fieldNumbers next f) (rowNumbers rows) in
     omega (arith, a, length-field-numbers next f, length-row-numbers rows, l)
 
-length-rows-of : (r : List ℕ) → length (rowsOf r) ≡ maxNodes
-unfolding rowsOf
-length-rows-of r = length-items maxNodes r rowsAt
+-- a readable record has the numbers of its own fields and rows
+pub numbers-straight : (n : ℕ) (r ns : List ℕ) (next : ℕ) (f : Fields) → length ns ≡ numberCount → readable n r ≡ true → next ≡ nextOf r → f ≡ fieldsIn r
+    → withPart numberCount ns 0 (numbersOf next f (rowsOf r)) ≡ recordNumbers n r
+unfolding recordNumbers numbersAs
+numbers-straight n r ns next f l h en ef =
+    let m = holds n r h in
+    with-all numberCount ns (numbersOf next f (rowsOf r)) l (length-numbers next f (rowsOf r) (length-rows-in r))
+    ∙ (λ j. numbersOf (en j) ((ef ∙ sym (m .fields)) j) (rowsOf r))
+    ∙ sym (ap (λ (a : Reading). numbersAs a r) (m .found))
 
 module _ (s : List ℕ) (i n : ℕ) (ns : List ℕ) where
   -- ---- reading
@@ -42,19 +49,20 @@ module _ (s : List ℕ) (i n : ℕ) (ns : List ℕ) where
   unfolding mayRead numbersRead
   read-short h = (rw (ne-eqb (length ns) numberCount h), rw (ne-eqb (length ns) numberCount h))
 
-  pub read-fault : length ns ≡ numberCount → readRecord n (recordOf s i) ≡ Fault → (false ≡ mayRead s i n ns) × (ns ≡ numbersRead s i n ns)
-  unfolding mayRead numbersRead isFound
-  read-fault l q = (rw (eq-eqb (length ns) numberCount l, q), rw (eq-eqb (length ns) numberCount l, q))
-
-  pub read-message : {e : Envelope} {f : Fields} (next : ℕ) (rows : List Item) → length ns ≡ numberCount → readRecord n (recordOf s i) ≡ Found e
-      → next ≡ nextOf (recordOf s i) → f ≡ fieldsOf e → rows ≡ rowsOf (recordOf s i)
-      → (true ≡ mayRead s i n ns) × (withPart numberCount ns 0 (numbersOf next f rows) ≡ numbersRead s i n ns)
-  unfolding mayRead numbersRead isFound recordNumbers numbersAs
-  read-message {e} {f} next rows l q en ef er = (
-    rw (eq-eqb (length ns) numberCount l, q),
-    with-all numberCount ns (numbersOf next f rows) l (length-numbers next f rows (ap length er ∙ length-rows-of (recordOf s i)))
-        ∙ rw (en, ef, er, eq-eqb (length ns) numberCount l, q),
+  -- what the record lent gives
+  pub read-lent : length ns ≡ numberCount → (r : List ℕ) → r ≡ recordOf s i → (b : Bool) (after : List ℕ) → b ≡ readable n r → after ≡ cond (readable n r) (recordNumbers n r) ns
+      → (b ≡ mayRead s i n ns) × (after ≡ numbersRead s i n ns)
+  unfolding mayRead numbersRead readable
+  read-lent l r er b after eb ea = (
+    eb ∙ rw (er, eq-eqb (length ns) numberCount l),
+    ea ∙ rw (er, eq-eqb (length ns) numberCount l),
   )
+
+  -- a record that is not there
+  pub read-none : length s < i * recordSize + recordSize → (false ≡ mayRead s i n ns) × (ns ≡ numbersRead s i n ns)
+  unfolding mayRead numbersRead readRecord isFound
+  read-none h =
+      (rw (record-none s i h, and-false (eqb (length ns) numberCount)), rw (record-none s i h, and-false (eqb (length ns) numberCount)))
 
   -- ---- writing
 

@@ -5,10 +5,31 @@ use numbers_read::fields_in;
 use numbers_read::is_stated;
 use numbers_rows::rows_in;
 use numbers_write::put;
-use record::Reading;
 use record::SIZE;
 ghost use mathlib.Core.Path.{_≡_};
+ghost use mathlib.Core.Bool.{cond};
+ghost use lib.ListN.{length};
+ghost use Rattle.readable.specs.Readable.{readable};
+ghost use Rattle.numbers.specs.Numbers.{numberCount, recordNumbers};
 ghost use Rattle.record_numbers.specs.Records.{bytesWritten, mayRead, mayWrite, numbersRead};
+
+// The numbers of a record that is readable in a group of `n`: its own fields and rows as they stand. If it is no message it
+// gives false and no number has changed.
+fn read_numbers(r: &[u8], n: usize, numbers: &mut [u64]) -> bool
+    requires { ⌜ length (now numbers) ≡ numberCount ⌝ }
+    ensures { λ b. ⌜ (b ≡ readable n (now (r .entry))) × (now (numbers .exit) ≡ cond (readable n (now (r .entry))) (recordNumbers n (now (r .entry))) (now (numbers .entry))) ⌝ }
+{
+    if !readable::zero_after_rows(r, n) {
+        return false;
+    }
+    let fields = decoding::read_fields(r);
+    if !kinds_read::is_known(fields) {
+        return false;
+    }
+    let next = endian_read::read_u16(r, layout::NEXT_AT) as u64;
+    put(numbers, next, fields, r);
+    true
+}
 
 // The numbers of record `record` of the bytes, read for a group of `n`: next, kind, sender, addressee, the sender's
 // incarnation, the other incarnation, attempt, index, tag, and the index and tag of fifteen rows. Where there are not 39
@@ -20,14 +41,12 @@ pub fn read_record(bytes: &[u8], record: u64, n: u64, numbers: &mut [u64]) -> bo
         return false;
     }
     let i = record as usize;
-    let Reading::Found(envelope) = record_read::read(bytes, i, n as usize) else {
+    let count = bytes.len() / SIZE;
+    if count <= i {
         return false;
-    };
-    let next = links::next(bytes, i) as u64;
-    let fields = kinds_write::fields_of(envelope);
-    let rows = record_rows::rows(bytes, i);
-    put(numbers, next, fields, rows);
-    true
+    }
+    let from = i * SIZE;
+    read_numbers(&bytes[from..from + SIZE], n as usize, numbers)
 }
 
 // Record `record` of the bytes becomes what the numbers say in a group of `n`, in the same order. Where the record is

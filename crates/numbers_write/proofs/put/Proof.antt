@@ -3,15 +3,15 @@ use native.Mathlib.Omega.{arith}
 use denote.Ref.{now}
 use mathlib.Core.Path.{sym}
 use Rattle.endian.specs.PartLaws.{with-none}
-use Rattle.layout.specs.LayoutLaws.{length-mapped}
+use Rattle.layout.specs.Layout.{rowsOf}
 use Rattle.numbers.specs.Numbers.{numberCount}
-use Rattle.numbers.specs.NumberLaws.{with-all-numbers}
+use Rattle.numbers.specs.NumberLaws.{length-rows-in, with-all-numbers}
 use borrow.Author.Needs.{needs}
 use Rattle.numbers_write.proofs.put.Statement.{statement}
 use Rattle.numbers_write.proofs.put.Tie as tie
 
 returns : tie.Need-returns
-returns c = let a = c .before .before .args in sym (with-none numberCount (now (a .numbers)) 0 _ (omega arith))
+returns c = let a = c .before .before .before .args in sym (with-none numberCount (now (a .numbers)) 0 _ (omega arith))
 
 put-fields-requires : tie.Need-put-fields-requires
 put-fields-requires c κs = search needs
@@ -23,7 +23,11 @@ same-length : tie.Need-same-length
 same-length c = search needs
 
 returns-2 : tie.Need-returns-2
-returns-2 c = let a = c .before .before .before .before .before .before .before .before .before .before .args in rw (c .before .before .put-rows .ensures, c .before .before .before .before .before .before .put-fields .ensures) (with-all-numbers (now (a .numbers)) (a .next) (a .fields) (a .rows) (omega arith) (search length-mapped))
+returns-2 c =
+    let f = c .before .before .before .before .before .before in
+    let a = f .before .before .before .before .before .args in
+    let r = now (a .r) in
+    rw (c .before .before .put-rows .ensures, f .put-fields .ensures) (with-all-numbers (now (a .numbers)) (a .next) (a .fields) (rowsOf r) (omega arith) (length-rows-in r))
 
 pub put-spec : {M : Type 1} → statement M
 put-spec =
