@@ -1,34 +1,49 @@
-// A drill's script, which comes in pieces, and what it prints. Everything is proved, no public function has a `requires`,
-// and what a piece does is stated by the crate `progress`.
-use answers::LINE_ROOM;
-use answers::Reply;
-use answers::print_line;
-use pending::Pending;
-use pending::read_pending;
+// A drill's script, which comes in pieces, and what it prints. The nodes are moved once for a piece, and lent for each of
+// its lines. Everything is proved, no public function has a `requires`, and what a piece does is stated by the crate
+// `progress`.
+use lines::take_lines;
 use progress::Drill;
 use progress::Fed;
 use progress::Progress;
-use script::Line;
-use session::begin;
-use session::call;
+use protocol::Node;
+use session::Position;
+use session::first_line;
 ghost use mathlib.Core.Path.{_≡_};
-ghost use Rattle.progress.specs.Feeding.{Taken, fedAt};
-ghost use Rattle.progress.specs.Turn.{lineFor};
+ghost use Rattle.progress.specs.Feeding.{Taken};
+ghost use Rattle.feeding.specs.Feeds.{Feeds, fedFrom};
 
-// The line as it is taken where the group has n nodes: before the first accepted `n`, where n is 0, an event is unread.
-fn line_for(n: u64, line: Line) -> Line
-    ensures { λ r. ⌜ r ≡ lineFor n line ⌝ }
+// How far the piece was taken, and where the drill stands then.
+fn fed(position: Position, nodes: [Node; Node::MAX_NODES]) -> Fed
+    ensures { λ r. ⌜ r ≡ fedFrom position nodes ⌝ }
 {
-    match line {
-        Line::SetUp(k) => Line::SetUp(k),
-        Line::Call(event) => {
-            if n == 0 {
-                return Line::Unread;
-            }
-            Line::Call(event)
-        }
-        Line::Unread => Line::Unread,
+    let pending = position.pending;
+    Fed {
+        next: position.next,
+        at: position.at,
+        progress: Progress {
+            count: position.count,
+            pending: pending,
+            drill: Drill {
+                n: position.n,
+                nodes: nodes,
+            },
+        },
     }
+}
+
+// Lends the nodes to the lines of a piece.
+fn lend_nodes(
+    piece: &[u8],
+    first: Position,
+    nodes: [Node; Node::MAX_NODES],
+    store: &mut [u8],
+    out: &mut [u8],
+) -> Fed
+    ensures { λ r. ⌜ Feeds (now (piece .entry)) (now (out .entry)) first nodes (now (store .entry)) (now (out .exit)) r (now (store .exit)) ⌝ }
+{
+    let mut held = nodes;
+    let last = take_lines(piece, first, &mut held, store, out);
+    fed(last, held)
 }
 
 // Takes a piece of the script, and prints the lines that it ends from the start of `out` on. It stops before a line
@@ -36,60 +51,8 @@ fn line_for(n: u64, line: Line) -> Line
 pub fn feed(piece: &[u8], start: Progress, store: &mut [u8], out: &mut [u8]) -> Fed
     ensures { λ r. ⌜ Taken (now (piece .entry)) start (now (store .entry)) (r .next) (r .at) (now (out .exit)) (r .progress) (now (store .exit)) ⌝ }
 {
-    let mut count = start.count;
-    let mut pending = start.pending;
-    let mut drill = start.drill;
-    let mut next = 0;
-    let mut at = 0;
-    while next < piece.len() {
-        let b = piece[next];
-        if b != b'\n' {
-            pending = pending.push(b);
-            next += 1;
-            continue;
-        }
-        if out.len() - at < LINE_ROOM {
-            break;
-        }
-        if count == u64::MAX {
-            break;
-        }
-        let line = line_for(drill.n, read_pending(pending));
-        pending = Pending::none();
-        count += 1;
-        next += 1;
-        match line {
-            Line::SetUp(n) => {
-                let turn = begin(drill, store, n);
-                let reply = turn.reply;
-                drill = turn.drill;
-                at = print_line(out, at, count, reply);
-            }
-            Line::Call(event) => {
-                let turn = call(drill, store, event);
-                let reply = turn.reply;
-                drill = turn.drill;
-                at = print_line(out, at, count, reply);
-            }
-            Line::Unread => {
-                at = print_line(out, at, count, Reply::Unread);
-            }
-        }
-    }
-    fed(next, at, count, pending, drill)
-}
-
-// How far the piece was taken, and where the drill stands then.
-fn fed(next: usize, at: usize, count: u64, pending: Pending, drill: Drill) -> Fed
-    ensures { λ r. ⌜ r ≡ fedAt next at count pending drill ⌝ }
-{
-    Fed {
-        next: next,
-        at: at,
-        progress: Progress {
-            count: count,
-            pending: pending,
-            drill: drill,
-        },
-    }
+    let first = first_line(piece, start, out);
+    let drill = start.drill;
+    let nodes = drill.nodes;
+    lend_nodes(piece, first, nodes, store, out)
 }

@@ -1,33 +1,57 @@
--- The nodes lent for a group of n are the first n of those held: where n is more than there are, all of them.
+-- The table of a group of n is the first n of the nodes held: where n is more than there are, all of them.
 use Prim.Native.Nat.{ℕ, _<_, _≤_}
 use native.Mathlib.Omega.{arith}
 use mathlib.Core.Path.{_≡_, refl, sym, _∙_}
-use mathlib.Core.List.{List, map}
+use mathlib.Core.Bool.{cond, true, false}
+use mathlib.Core.List.{List, _++_}
 use lib.Dec.{ltb}
-use lib.ListN.{length, length-map, take, drop, drop-of-length-le}
+use lib.ListN.{length, take, drop, drop-of-length-le}
 use lib.Seq.{take-all}
 use borrow.Author.Tests.{ltb-false, ltb-true}
-use Rattle.item.specs.Maxima.{maxNodes}
 use Rattle.item.specs.Tests.{by-cond}
+use Rattle.protocol.specs.Operation.{Result, setUp, perform}
+use Rattle.protocol.specs.declared.Answer.{Answer}
 use Rattle.protocol.specs.declared.Node.{Node}
-use Rattle.lending.specs.Lending.{firstNodes}
+use Rattle.lending.specs.declared.Asked.{Asked}
+use Rattle.lending.specs.Lending.{firstNodes, operated, operatedFirst, putFirst}
 
-pub first-few : (n : ℕ) → firstNodes n ≤ maxNodes
+pub first-few : (n held : ℕ) → firstNodes n held ≤ held
 unfolding firstNodes
-first-few n = by-cond (λ k. k ≤ maxNodes) (ltb n maxNodes) n maxNodes (λ e. omega (arith, ltb-true n maxNodes e)) (λ e. omega arith)
+first-few n held = by-cond (λ k. k ≤ held) (ltb n held) n held (λ e. omega (arith, ltb-true n held e)) (λ e. omega arith)
 
-pub first-take : (n : ℕ) (nodes : List Node) → length nodes ≡ maxNodes → take (firstNodes n) nodes ≡ take n nodes
+first-take : (n : ℕ) (nodes : List Node) → take (firstNodes n (length nodes)) nodes ≡ take n nodes
 unfolding firstNodes
-first-take n nodes l =
-    by-cond (λ k. take k nodes ≡ take n nodes) (ltb n maxNodes) n maxNodes (λ e. refl)
-    (λ e. take-all maxNodes nodes (omega arith) ∙ sym (take-all n nodes (omega (arith, ltb-false n maxNodes e))))
+first-take n nodes =
+    by-cond (λ k. take k nodes ≡ take n nodes) (ltb n (length nodes)) n (length nodes) (λ e. refl)
+    (λ e. take-all (length nodes) nodes (omega arith) ∙ sym (take-all n nodes (omega (arith, ltb-false n (length nodes) e))))
 
-pub first-drop : (n : ℕ) (nodes : List Node) → length nodes ≡ maxNodes → drop (firstNodes n) nodes ≡ drop n nodes
+first-drop : (n : ℕ) (nodes : List Node) → drop (firstNodes n (length nodes)) nodes ≡ drop n nodes
 unfolding firstNodes
-first-drop n nodes l =
-    by-cond (λ k. drop k nodes ≡ drop n nodes) (ltb n maxNodes) n maxNodes (λ e. refl)
-    (λ e. drop-of-length-le nodes {i = maxNodes} (omega arith) ∙ sym (drop-of-length-le nodes {i = n} (omega (arith, ltb-false n maxNodes e))))
+first-drop n nodes =
+    by-cond (λ k. drop k nodes ≡ drop n nodes) (ltb n (length nodes)) n (length nodes) (λ e. refl)
+    (λ e. drop-of-length-le nodes {i = length nodes} (omega arith) ∙ sym (drop-of-length-le nodes {i = n} (omega (arith, ltb-false n (length nodes) e))))
 
--- fifteen nodes by value
-pub length-held : {X Y : Type 0} (f : X → Y) (l : List X) (n : ℕ) → length (map f l) ≡ n → length l ≡ n
-length-held f l n p = sym (length-map l f) ∙ p
+-- an answer, nodes and a store are those of a result
+abbrev pub Gives : Result → Answer → List Node → List ℕ → Type 0
+Gives result r nodes store = (r ≡ result .answer) × ((nodes ≡ result .table) × (store ≡ result .store))
+
+pub begins-gives : (asked : Asked) (table : List Node) (store : List ℕ) (r : Answer) (l : List Node) (m : List ℕ)
+    → asked .begins ≡ true → Gives (setUp (asked .n) table store) r l m → Gives (operated asked table store) r l m
+unfolding operated
+begins-gives asked table store r l m t e = rw t e
+
+pub event-gives : (asked : Asked) (table : List Node) (store : List ℕ) (r : Answer) (l : List Node) (m : List ℕ)
+    → asked .begins ≡ false → Gives (perform (asked .event) table store) r l m → Gives (operated asked table store) r l m
+unfolding operated
+event-gives asked table store r l m t e = rw t e
+
+-- what is asked was done over as many nodes as there are for n
+pub first-gives : (asked : Asked) (nodes : List Node) (store : List ℕ) (k : ℕ) (r : Answer) (l : List Node) (m : List ℕ)
+    → k ≡ firstNodes (asked .n) (length nodes) → Gives (operated asked (take k nodes) store) r l m → Gives (operatedFirst asked nodes store) r (l ++ drop k nodes) m
+unfolding operatedFirst putFirst
+first-gives asked nodes store k r l m f e =
+    let t : take k nodes ≡ take (asked .n) nodes = rw f (first-take (asked .n) nodes) in
+    let d : drop k nodes ≡ drop (asked .n) nodes = rw f (first-drop (asked .n) nodes) in
+    let g : (x : List Node) → x ≡ take (asked .n) nodes → Gives (operated asked x store) r l m → (r ≡ operated asked (take (asked .n) nodes) store .answer) × ((l ++ drop k nodes ≡ operated asked (take (asked .n) nodes) store .table ++ drop (asked .n) nodes) × (m ≡ operated asked (take (asked .n) nodes) store .store)) = λ x p h.
+    (h .0 ∙ rw p, ((λ i. h .1 .0 i ++ d i) ∙ rw p, h .1 .1 ∙ rw p)) in
+    g (take k nodes) t e

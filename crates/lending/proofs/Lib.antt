@@ -1,3 +1,4 @@
 pub mod First
 pub mod Local
+pub mod Part
 pub mod Walk

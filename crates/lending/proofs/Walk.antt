@@ -1,14 +1,20 @@
--- What the walks name of a function's MIR and of a node in memory.
-use Prim.Native.Nat.{ℕ, zero, suc}
-use mathlib.Core.List.{List, [], _∷_}
-use mir.Syntax.{Ty, tyUnit, Local, local}
+-- What the walks name of the memory of a struct, and what a test tells.
+use Prim.Native.Nat.{ℕ}
+use mathlib.Core.Path.{_≡_, refl}
+use mathlib.Core.Bool.{Bool, true, false, not}
+use lib.Dec.{T}
 
--- the type of local k
-abbrev pub ty-of : List Local → ℕ → Ty
-ty-of (local τ h ∷ ls) zero = τ
-ty-of (l ∷ ls) (suc k) = ty-of ls k
-ty-of [] k = tyUnit
+-- where the fields of `lending::Asked` stand
+abbrev pub beginsAt : ℕ
+beginsAt = 8
 
--- the bytes that a node takes
-abbrev pub nodeSize : ℕ
-nodeSize = 752
+abbrev pub eventAt : ℕ
+eventAt = 16
+
+pub holds : (t : Bool) → T t → t ≡ true
+holds true h = refl
+holds false h = absurd h
+
+pub fails : (t : Bool) → T (not t) → t ≡ false
+fails true h = absurd h
+fails false h = refl

@@ -1,72 +1,43 @@
-// The group's operations over fifteen nodes by value, of which the first ones are lent as the table. Whoever calls them
-// holds no reference to a node. Everything is proved, and no public function has a `requires`.
+// An operation of the group as a line of a drill asks for it, over nodes that are lent, of which the first ones are the
+// group's table. Everything is proved, and no public function has a `requires`.
 use protocol::Answer;
 use protocol::Event;
 use protocol::Node;
-ghost use Prim.Native.Nat.{_≤_};
 ghost use mathlib.Core.Path.{_≡_};
-ghost use lib.ListN.{take};
-ghost use Rattle.item.specs.Maxima.{maxNodes};
-ghost use Rattle.protocol.specs.Operation as operation;
-ghost use Rattle.lending.specs.Lending.{firstNodes, outcomeOf};
+ghost use Rattle.lending.specs.Lending.{firstNodes, operated, operatedFirst};
 
-// What a call answers, and all the nodes afterwards.
-pub struct Outcome {
-    pub answer: Answer,
-    pub nodes: [Node; Node::MAX_NODES],
+// What a line asks of the group: the set-up of a group of n, or an event of the group of n that stands.
+pub struct Asked {
+    pub n: u64,
+    // Whether a group begins: it is a set-up, and the event is not looked at.
+    pub begins: bool,
+    pub event: Event,
 }
 
-// Set up of a group of n, with the first n nodes as its table.
-pub fn set_up(nodes: [Node; Node::MAX_NODES], store: &mut [u8], n: u64) -> Outcome
-    ensures { λ r. ⌜ (r ≡ outcomeOf n nodes (operation.setUp n (take n nodes) (now (store .entry)))) × (now (store .exit) ≡ operation.setUp n (take n nodes) (now (store .entry)) .store) ⌝ }
+// What is asked, over the group's table.
+fn operate(table: &mut [Node], store: &mut [u8], asked: Asked) -> Answer
+    ensures { λ r. ⌜ (r ≡ operated asked (now (table .entry)) (now (store .entry)) .answer) × ((now (table .exit) ≡ operated asked (now (table .entry)) (now (store .entry)) .table) × (now (store .exit) ≡ operated asked (now (table .entry)) (now (store .entry)) .store)) ⌝ }
 {
-    let first = first_nodes(n);
-    set_up_first(nodes, first, store, n)
+    if asked.begins {
+        return group::set_up(table, store, asked.n);
+    }
+    group::perform(table, store, asked.event)
 }
 
-// An event of a group of n, whose table is the first n nodes.
-pub fn perform(nodes: [Node; Node::MAX_NODES], n: u64, store: &mut [u8], event: Event) -> Outcome
-    ensures { λ r. ⌜ (r ≡ outcomeOf n nodes (operation.perform event (take n nodes) (now (store .entry)))) × (now (store .exit) ≡ operation.perform event (take n nodes) (now (store .entry)) .store) ⌝ }
+// How many nodes are the table of a group of n, where so many are held: all of them, where there are fewer than n.
+fn first_nodes(n: u64, held: usize) -> usize
+    ensures { λ r. ⌜ r ≡ firstNodes n held ⌝ }
 {
-    let lent = first_nodes(n);
-    perform_first(nodes, lent, store, event)
-}
-
-// How many nodes are lent for a group of n: there are no more than fifteen.
-fn first_nodes(n: u64) -> usize
-    ensures { λ r. ⌜ r ≡ firstNodes n ⌝ }
-{
-    if n < Node::MAX_NODES as u64 {
+    if n < held as u64 {
         return n as usize;
     }
-    Node::MAX_NODES
+    held
 }
 
-fn set_up_first(nodes: [Node; Node::MAX_NODES], first: usize, store: &mut [u8], n: u64) -> Outcome
-    requires { ⌜ first ≤ maxNodes ⌝ }
-    ensures { λ r. ⌜ (r ≡ outcomeOf first nodes (operation.setUp n (take first nodes) (now (store .entry)))) × (now (store .exit) ≡ operation.setUp n (take first nodes) (now (store .entry)) .store) ⌝ }
+// What is asked, over the first n of the nodes held; the others stay as they are.
+pub fn operate_first(nodes: &mut [Node], store: &mut [u8], asked: Asked) -> Answer
+    ensures { λ r. ⌜ (r ≡ operatedFirst asked (now (nodes .entry)) (now (store .entry)) .answer) × ((now (nodes .exit) ≡ operatedFirst asked (now (nodes .entry)) (now (store .entry)) .table) × (now (store .exit) ≡ operatedFirst asked (now (nodes .entry)) (now (store .entry)) .store)) ⌝ }
 {
-    let mut held = nodes;
-    let answer = group::set_up(&mut held[..first], store, n);
-    Outcome {
-        answer: answer,
-        nodes: held,
-    }
-}
-
-fn perform_first(
-    nodes: [Node; Node::MAX_NODES],
-    first: usize,
-    store: &mut [u8],
-    event: Event,
-) -> Outcome
-    requires { ⌜ first ≤ maxNodes ⌝ }
-    ensures { λ r. ⌜ (r ≡ outcomeOf first nodes (operation.perform event (take first nodes) (now (store .entry)))) × (now (store .exit) ≡ operation.perform event (take first nodes) (now (store .entry)) .store) ⌝ }
-{
-    let mut held = nodes;
-    let answer = group::perform(&mut held[..first], store, event);
-    Outcome {
-        answer: answer,
-        nodes: held,
-    }
+    let first = first_nodes(asked.n, nodes.len());
+    operate(&mut nodes[..first], store, asked)
 }

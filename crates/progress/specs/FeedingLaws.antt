@@ -39,7 +39,7 @@ in-line : (count : ℕ) (pending : Pending) (drill : Drill) (store : List ℕ) (
 unfolding pendingOutput
 in-line count pending drill store b bs h = rw (ne-eqb b lineFeed h)
 
-ends-line : (count : ℕ) (pending : Pending) (drill : Drill) (store : List ℕ) (b : ℕ) (bs : List ℕ) → b ≡ lineFeed
+pub ends-line : (count : ℕ) (pending : Pending) (drill : Drill) (store : List ℕ) (b : ℕ) (bs : List ℕ) → b ≡ lineFeed
     → pendingOutput count pending drill store (b ∷ bs) ≡ outputLine (suc count) (lineDone (pendingLine pending) drill store .turn .reply) ++ pendingOutput (suc count) noneYet (lineDone (pendingLine pending) drill store .turn .drill) (lineDone (pendingLine pending) drill store .store) bs
 unfolding pendingOutput
 ends-line count pending drill store b bs h = rw (eq-eqb b lineFeed h)

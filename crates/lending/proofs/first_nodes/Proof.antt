@@ -1,5 +1,4 @@
 -- `lending::first_nodes` gives `firstNodes`: one test.
-use borrow.Author.Needs.{needs}
 use borrow.Author.Tests.{lt-ltb, le-ltb}
 use Rattle.lending.specs.Lending.{firstNodes}
 use Rattle.lending.proofs.first_nodes.Statement.{statement}

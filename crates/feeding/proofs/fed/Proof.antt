@@ -1,0 +1,12 @@
+-- `feeding::fed` makes the struct.
+use borrow.Author.Needs.{needs}
+use Rattle.feeding.specs.Feeds.{fedFrom}
+use Rattle.feeding.proofs.fed.Statement.{statement}
+use Rattle.feeding.proofs.fed.Tie as tie
+
+returns : tie.Need-returns
+unfolding fedFrom
+returns c = search needs
+
+pub fed-spec : {M : Type 1} → statement M
+fed-spec = tie.close (tie.spec returns)

@@ -1,0 +1,19 @@
+-- What lending the nodes to the lines of a piece gives.
+use Prim.Native.Nat.{ℕ}
+use mathlib.Core.List.{List}
+use Rattle.lines.specs.Taking.{Stops}
+use Rattle.progress.specs.Feeding.{Taken, fedAt}
+use Rattle.progress.specs.declared.Fed.{Fed}
+use Rattle.progress.specs.declared.Progress.{Progress}
+use Rattle.protocol.specs.declared.Node.{Node}
+use Rattle.session.specs.Position.{Reached}
+use Rattle.session.specs.declared.Position.{Position}
+
+-- how far the piece was taken, and where the drill stands then
+unfoldable pub fedFrom : Position → List Node → Fed
+fedFrom p nodes = fedAt (p .next) (p .at) (p .count) (p .pending) (record { n = p .n; nodes = nodes })
+
+-- from a position that was reached the piece was taken
+abbrev pub Feeds : List ℕ → List ℕ → Position → List Node → List ℕ → List ℕ → Fed → List ℕ → Type 0
+Feeds piece out p nodes store out′ fed store′ =
+    (before : Progress) (storeBefore : List ℕ) → Reached piece before storeBefore out p nodes store → Stops piece out p → Taken piece before storeBefore (fed .next) (fed .at) out′ (fed .progress) store′

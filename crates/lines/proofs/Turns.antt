@@ -1,0 +1,37 @@
+-- Laws of a turn of the loop over the lines of a piece, and what its walk names of a position in memory.
+use Prim.Native.Nat.{ℕ, _+_, _-_, _<_}
+use native.Mathlib.Omega.{arith}
+use mathlib.Core.Path.{_≡_, refl}
+use mathlib.Core.Bool.{Bool, true, false, cond}
+use mathlib.Core.List.{List}
+use lib.ListN.{length}
+use Rattle.answering.specs.Carried.{Carried}
+use Rattle.protocol.specs.declared.Node.{Node}
+use Rattle.session.specs.Position.{Onward}
+use Rattle.session.specs.declared.Position.{Position}
+use Rattle.lines.specs.Taking.{Takes}
+
+-- where the field of `session::Position` stands that the walk reads
+abbrev pub asksAt : ℕ
+asksAt = 104
+
+-- what is left of the piece, and an answer that is to be printed
+abbrev pub left : List ℕ → Position → ℕ
+left piece p = length piece - p .next + cond (p .asks) 1 0
+
+pub nearer : (piece out : List ℕ) (p p′ : Position) → p .asks ≡ true → Onward piece (p .next) out p′ → left piece p′ < left piece p
+nearer piece out p p′ t on = by-test (p′ .asks) refl
+  where
+    now : left piece p ≡ length piece - p .next + 1
+    now = rw t
+
+    by-test : (b : Bool) → p′ .asks ≡ b → length piece - p′ .next + cond b 1 0 < left piece p
+    by-test true e = omega (arith, now, on .further e .0, on .further e .1)
+    by-test false e = omega (arith, now, on .forward)
+
+-- what a position asks was carried out and answered
+pub turned : (piece out₀ : List ℕ) (p₀ : Position) (nodes₀ : List Node) (store₀ out : List ℕ) (p : Position) (nodes : List Node) (store : List ℕ) → Takes piece out₀ p₀ nodes₀ store₀ out p nodes store → p .asks ≡ true
+    → (out′ : List ℕ) (p′ : Position) (nodes′ : List Node) (store′ : List ℕ) → Carried piece out p nodes store out′ p′ nodes′ store′ → Takes piece out₀ p₀ nodes₀ store₀ out′ p′ nodes′ store′
+turned piece out₀ p₀ nodes₀ store₀ out p nodes store k t out′ p′ nodes′ store′ c before sb so stops =
+    let w = k before sb so stops in
+    (c .reached t before sb (w .0), λ f. c .onward .ended f (w .0 .within .0))
