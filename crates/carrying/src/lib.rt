@@ -6,8 +6,7 @@ use protocol::Answer;
 use protocol::Node;
 use protocol::Refusal;
 use protocol::Step;
-use sending::outgoing_of;
-use sending::row_items;
+use sending::count_sent;
 ghost use mathlib.Core.Path.{_≡_};
 ghost use Rattle.protocol.specs.Operation.{isRefused};
 ghost use Rattle.outcome.specs.Act.{handedBack, carriedOut};
@@ -39,12 +38,10 @@ pub fn carry_out(s: &mut [u8], node: Node, free: usize, back: usize, step: Step)
     }
     let next = step.node;
     let sends = step.sends;
-    let places = outgoing_of(next, sends, back);
-    if free < mail::count_outgoing(places) {
+    if free < count_sent(next, sends, back) {
         return refused(Refusal::NoRoom, node);
     }
-    let items = row_items(next);
-    mail::put_each(s, places, items);
+    mail::send_each(s, next, sends, back);
     Acted {
         answer: answer,
         node: next,

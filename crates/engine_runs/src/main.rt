@@ -28,7 +28,7 @@ use protocol::Answer;
 use protocol::Node;
 use protocol::Sends;
 use protocol::Step;
-use sending::outgoing_of;
+use sending::outgoing_to;
 use sending::row_items;
 
 // The nodes of the group.
@@ -92,10 +92,9 @@ fn print_message(envelope: Envelope) {
 fn print_sends(step: Step, back: usize) {
     let node = step.node;
     let sends = step.sends;
-    let places = outgoing_of(node, sends, back);
     let mut k: usize = 0;
     while k < NODES {
-        let place = places[k];
+        let place = outgoing_to(node, sends, back, k);
         let envelope = place.envelope;
         if place.present {
             print_message(envelope);
@@ -113,13 +112,9 @@ fn print_answer(answer: Answer, count: u64) {
 // What the sender's latest step sent reaches this node.
 fn handed(from: Step, to: Node) -> Step {
     let number = to.number;
-    if Node::MAX_ROWS <= number {
-        return from;
-    }
     let sender = from.node;
     let sends = from.sends;
-    let places = outgoing_of(sender, sends, number);
-    let place = places[number];
+    let place = outgoing_to(sender, sends, number, number);
     let envelope = place.envelope;
     deliver(to, envelope, row_items(sender))
 }

@@ -1,56 +1,46 @@
-// The messages of one call: how many they are, and put into a store over lent bytes in their order. Everything is proved,
-// no public function has a `requires`, and each gives what one definition of the crate `store` says. Bytes that are not
-// as long as a store stay as they are.
+// The messages of a decision, put into a store over lent bytes by rising number. Everything is proved, the public function
+// has no `requires`, and it leaves the bytes that one definition of the crate `store` says. Bytes that are not as long as
+// a store stay as they are.
 use item::Item;
-use message::Outgoing;
+use protocol::Node;
+use protocol::Sends;
+use sending::is_sent;
+use sending::outgoing_to;
+use sending::row_items;
 ghost use mathlib.Core.Path.{_≡_};
 ghost use mathlib.Core.Bool.{cond};
-ghost use Prim.Native.Nat.{_≤_};
 ghost use Rattle.store.specs.Records.{onRecords};
-ghost use Rattle.store.specs.Change.{putIn, putEach, countOutgoing};
+ghost use Rattle.store.specs.Change.{putIn, putEach};
+ghost use Rattle.protocol.specs.Operation.{rowItems};
+ghost use Rattle.protocol.specs.Outgoing.{outgoingTo, outgoing};
 
-// The message of this place, if one is present.
-fn put_present(s: &mut [u8], place: Outgoing, rows: [Item; item::MAX_NODES])
-    ensures { λ _. ⌜ now (s .exit) ≡ cond (place .present) (onRecords (λ rs. putIn rs (place .envelope) rows) (now (s .entry))) (now (s .entry)) ⌝ }
+// The message to node `k`, if one goes there. It is made only then, as most numbers are not sent to.
+fn send_to(
+    s: &mut [u8],
+    node: Node,
+    sends: Sends,
+    back: usize,
+    k: usize,
+    items: [Item; item::MAX_NODES],
+)
+    ensures { λ _. ⌜ now (s .exit) ≡ cond (outgoingTo node sends back k .present) (onRecords (λ rs. putIn rs (outgoingTo node sends back k .envelope) items) (now (s .entry))) (now (s .entry)) ⌝ }
 {
-    if !place.present {
+    if !is_sent(node, sends, back, k) {
         return;
     }
+    let place = outgoing_to(node, sends, back, k);
     let envelope = place.envelope;
-    putting::put(s, envelope, rows);
+    putting::put(s, envelope, items);
 }
 
-// The messages that are present, in their order.
-pub fn put_each(s: &mut [u8], outgoing: [Outgoing; item::MAX_NODES], rows: [Item; item::MAX_NODES])
-    ensures { λ _. ⌜ now (s .exit) ≡ onRecords (λ rs. putEach rs outgoing rows) (now (s .entry)) ⌝ }
+// What the node sends, by rising number; a Table bears the items of its rows.
+pub fn send_each(s: &mut [u8], node: Node, sends: Sends, back: usize)
+    ensures { λ _. ⌜ now (s .exit) ≡ onRecords (λ rs. putEach rs (outgoing node sends back) (rowItems node)) (now (s .entry)) ⌝ }
 {
-    let mut i = 0;
-    while i < item::MAX_NODES {
-        let place = outgoing[i];
-        put_present(s, place, rows);
-        i += 1;
-    }
-}
-
-fn one_if(present: bool) -> usize
-    ensures { λ r. ⌜ (r ≡ cond present 1 0) × (r ≤ 1) ⌝ }
-{
-    if present {
-        return 1;
-    }
-    0
-}
-
-// How many messages are present.
-pub fn count_outgoing(outgoing: [Outgoing; item::MAX_NODES]) -> usize
-    ensures { λ r. ⌜ r ≡ countOutgoing outgoing ⌝ }
-{
-    let mut count = 0;
-    let mut k = 0;
+    let items = row_items(node);
+    let mut k: usize = 0;
     while k < item::MAX_NODES {
-        let place = outgoing[k];
-        count += one_if(place.present);
+        send_to(s, node, sends, back, k, items);
         k += 1;
     }
-    count
 }

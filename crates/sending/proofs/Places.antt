@@ -1,40 +1,61 @@
--- A turn of each loop: the places filled so far, and one more.
-use Prim.Native.Nat.{ℕ, zero, suc, _+_, _≤_, _<_}
+-- A turn of each loop over the node numbers, and its end.
+use Prim.Native.Nat.{ℕ, zero, suc, _+_, _-_, _≤_, _<_}
 use mathlib.Core.Path.{_≡_, refl, sym, ap, _∙_}
+use mathlib.Core.Bool.{Bool, cond}
 use mathlib.Core.List.{List, [], _∷_, _++_, map}
 use native.Mathlib.Omega.{arith}
 use native.Mathlib.Numerals.{add-one}
 use lib.ListN.{length, take, getD, set, length-map}
 use lib.Seq.{take-suc-set, take-all}
+use Rattle.item.specs.Maxima.{maxNodes}
 use Rattle.item.specs.Row.{zeroRow}
+use Rattle.item.specs.Tests.{by-cond}
 use Rattle.item.specs.declared.Item.{Item}
 use Rattle.item.specs.declared.Row.{Row}
 use Rattle.message.specs.declared.Outgoing.{Outgoing}
 use Rattle.protocol.specs.Operation.{rowItems}
 use Rattle.protocol.specs.Outgoing.{outgoingTo, outgoingFrom}
+use Rattle.store.specs.Change.{countOutgoing}
 use Rattle.protocol.specs.declared.Node.{Node}
 use Rattle.protocol.specs.declared.Sends.{Sends}
 
--- one place more, at the end
-from-last : (node : Node) (sends : Sends) (back k count : ℕ) → outgoingFrom node sends back k (suc count) ≡ outgoingFrom node sends back k count ++ outgoingTo node sends back (k + count) ∷ []
-unfolding outgoingFrom
-from-last node sends back k zero =
-    let e : k + 0 ≡ k = omega arith in
-    ap (λ (j : ℕ). outgoingTo node sends back j ∷ []) (sym e)
-from-last node sends back k (suc count) =
-    let e : suc k + count ≡ k + suc count = omega arith in
-    ap (λ (l : List Outgoing). outgoingTo node sends back k ∷ l)
-    (from-last node sends back (suc k) count ∙ ap (λ (j : ℕ). outgoingFrom node sends back (suc k) count ++ outgoingTo node sends back j ∷ []) e)
+-- ---- the numbers from k on
 
-pub places-turn : (node : Node) (sends : Sends) (back : ℕ) (places : List Outgoing) (k : ℕ) (r : Outgoing) → k < length places
-    → take k places ≡ outgoingFrom node sends back 0 k → r ≡ outgoingTo node sends back k
-    → take (k + 1) (set places k r) ≡ outgoingFrom node sends back 0 (k + 1)
-places-turn node sends back places k r h e er =
-    let z : 0 + k ≡ k = omega arith in
-    rw (add-one k, take-suc-set places k r h, e, er)
-    (sym (from-last node sends back 0 k ∙ ap (λ (j : ℕ). outgoingFrom node sends back 0 k ++ outgoingTo node sends back j ∷ []) z))
+abbrev pub outgoingLeft : Node → Sends → ℕ → ℕ → List Outgoing
+outgoingLeft node sends back k = outgoingFrom node sends back k (maxNodes - k)
 
--- one item more
+module _ (node : Node) (sends : Sends) (back k : ℕ) where
+  pub left-cons : k < maxNodes → outgoingLeft node sends back k ≡ outgoingTo node sends back k ∷ outgoingLeft node sends back (k + 1)
+  unfolding outgoingFrom
+  left-cons h =
+      let e : maxNodes - k ≡ suc (maxNodes - (k + 1)) = omega arith in
+      ap (outgoingFrom node sends back k) e
+      ∙ ap (λ (j : ℕ). outgoingTo node sends back k ∷ outgoingFrom node sends back j (maxNodes - (k + 1))) (sym (add-one k))
+
+  pub left-none : maxNodes ≤ k → outgoingLeft node sends back k ≡ []
+  unfolding outgoingFrom
+  left-none h =
+      let e : maxNodes - k ≡ 0 = omega arith in
+      ap (outgoingFrom node sends back k) e
+
+  pub count-turn : (r : ℕ) → k < maxNodes → r ≡ cond (outgoingTo node sends back k .present) 1 0
+      → countOutgoing (outgoingLeft node sends back k) ≡ r + countOutgoing (outgoingLeft node sends back (k + 1))
+  unfolding countOutgoing
+  count-turn r h er =
+      rw (left-cons h, er)
+      (by-cond (λ (c : ℕ). c ≡ cond o 1 0 + countOutgoing (outgoingLeft node sends back (k + 1))) o _ _
+      (λ e. rw e (omega arith))
+      (λ e. rw e (omega arith)))
+    where
+      o : Bool
+      o = outgoingTo node sends back k .present
+
+  pub count-end : maxNodes ≤ k → countOutgoing (outgoingLeft node sends back k) ≡ 0
+  unfolding countOutgoing
+  count-end h = ap countOutgoing (left-none h)
+
+-- ---- one item more
+
 map-suc : {A B : Type 0} (f : A → B) (xs : List A) (k : ℕ) (d : A) → k < length xs → take (suc k) (map f xs) ≡ take k (map f xs) ++ f (getD xs k d) ∷ []
 map-suc f [] k d h = absurd (omega arith)
 map-suc f (x ∷ xs) zero d h = refl

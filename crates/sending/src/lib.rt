@@ -1,5 +1,6 @@
-// What a decision sends, as an array with a place for each node number, and the items that go with a Table. Everything
-// is proved, no public function has a `requires`, and each gives what one definition of the crate `protocol` says.
+// What a decision sends: to whom, what, how many messages, and the items that go with a Table. No array of messages is
+// built, as most decisions send one or none. Everything is proved, no public function has a `requires`, and each gives
+// what one definition of the crates `protocol` and `store` says.
 use item::Attempt;
 use item::Item;
 use message::Envelope;
@@ -10,12 +11,13 @@ use protocol::Node;
 use protocol::Peer;
 use protocol::Sends;
 ghost use mathlib.Core.Path.{_≡_};
-ghost use mathlib.Core.Bool.{_&&_};
-ghost use lib.Dec.{ltb};
+ghost use mathlib.Core.Bool.{cond};
+ghost use Prim.Native.Nat.{_≤_};
 ghost use Rattle.message.specs.declared.Message.the-variants.{Confirm};
 ghost use Rattle.protocol.specs.Node.{peerOf};
 ghost use Rattle.protocol.specs.Operation.{rowItems};
 ghost use Rattle.protocol.specs.Outgoing.{goesTo, messageTo, outgoingTo, outgoing};
+ghost use Rattle.store.specs.Change.{countOutgoing};
 
 // The peer `k` of those asked.
 fn asked_peer(node: Node, k: usize) -> Peer
@@ -46,8 +48,8 @@ fn goes_to(sends: Sends, node: Node, back: usize, k: usize) -> bool
 }
 
 // Whether a message goes to node `k`, and the group has this node.
-fn is_sent(node: Node, sends: Sends, back: usize, k: usize) -> bool
-    ensures { λ r. ⌜ r ≡ ltb k (node .n) && goesTo sends node back k ⌝ }
+pub fn is_sent(node: Node, sends: Sends, back: usize, k: usize) -> bool
+    ensures { λ r. ⌜ r ≡ outgoingTo node sends back k .present ⌝ }
 {
     if node.n <= k {
         return false;
@@ -81,7 +83,7 @@ fn message_to(sends: Sends, node: Node, k: usize) -> Message
 }
 
 // What goes to node `k`, if anything.
-fn outgoing_to(node: Node, sends: Sends, back: usize, k: usize) -> Outgoing
+pub fn outgoing_to(node: Node, sends: Sends, back: usize, k: usize) -> Outgoing
     ensures { λ r. ⌜ r ≡ outgoingTo node sends back k ⌝ }
 {
     let present = is_sent(node, sends, back, k);
@@ -98,17 +100,27 @@ fn outgoing_to(node: Node, sends: Sends, back: usize, k: usize) -> Outgoing
     }
 }
 
-// What goes to each node, by rising number.
-pub fn outgoing_of(node: Node, sends: Sends, back: usize) -> [Outgoing; item::MAX_NODES]
-    ensures { λ r. ⌜ r ≡ outgoing node sends back ⌝ }
+fn one_if(present: bool) -> usize
+    ensures { λ r. ⌜ (r ≡ cond present 1 0) × (r ≤ 1) ⌝ }
 {
-    let mut places = [outgoing_to(node, sends, back, 0); item::MAX_NODES];
+    if present {
+        return 1;
+    }
+    0
+}
+
+// How many messages are sent.
+pub fn count_sent(node: Node, sends: Sends, back: usize) -> usize
+    ensures { λ r. ⌜ r ≡ countOutgoing (outgoing node sends back) ⌝ }
+{
+    let mut count = 0;
     let mut k: usize = 0;
     while k < item::MAX_NODES {
-        places[k] = outgoing_to(node, sends, back, k);
+        let sent = is_sent(node, sends, back, k);
+        count += one_if(sent);
         k += 1;
     }
-    places
+    count
 }
 
 // The items of the node's rows.
@@ -116,12 +128,12 @@ pub fn row_items(node: Node) -> [Item; item::MAX_NODES]
     ensures { λ r. ⌜ r ≡ rowItems node ⌝ }
 {
     let mut items = [Item::zero(); item::MAX_NODES];
-    let mut k: usize = 0;
-    while k < item::MAX_NODES {
-        let row = node.rows[k];
+    let mut i: usize = 0;
+    while i < item::MAX_NODES {
+        let row = node.rows[i];
         let item = row.item;
-        items[k] = item;
-        k += 1;
+        items[i] = item;
+        i += 1;
     }
     items
 }

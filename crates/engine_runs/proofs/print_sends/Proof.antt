@@ -5,22 +5,16 @@ use Rattle.engine_runs.proofs.print_sends.Statement.{statement}
 use Rattle.engine_runs.proofs.print_sends.Tie as tie
 
 abbrev Inv-loop : tie.InvT-loop
-Inv-loop back places k₀ k = k ≤ 3
+Inv-loop back node sends k₀ k = k ≤ 3
 
 abbrev μ-loop : tie.MeasureT-loop
-μ-loop back places k₀ k = 3 - k
-
-outgoing-of-requires : tie.Need-outgoing-of-requires Inv-loop μ-loop
-outgoing-of-requires c κs = search needs
+μ-loop back node sends k₀ k = 3 - k
 
 loop-holds : tie.Need-loop-holds Inv-loop μ-loop
 loop-holds c = search needs
 
-mul-place : tie.Need-mul-place Inv-loop μ-loop
-mul-place c = search needs
-
-array-copy-out-place : tie.Need-array-copy-out-place Inv-loop μ-loop
-array-copy-out-place c = search needs
+outgoing-to-requires : tie.Need-outgoing-to-requires Inv-loop μ-loop
+outgoing-to-requires c κs = search needs
 
 print-message-requires : tie.Need-print-message-requires Inv-loop μ-loop
 print-message-requires c κs = search needs
@@ -43,10 +37,8 @@ print-sends-spec =
     (tie.spec
     Inv-loop
     μ-loop
-    outgoing-of-requires
     loop-holds
-    mul-place
-    array-copy-out-place
+    outgoing-to-requires
     print-message-requires
     add-k
     loop-less

@@ -1,4 +1,4 @@
--- `sending::row_items` meets its contract. The invariant: the first k items are those of the rows.
+-- `sending::row_items` meets its contract. The invariant: the first i items are those of the rows.
 use Rattle.sending.proofs.Places.{items-turn, items-end}
 use Rattle.protocol.specs.Operation.{rowItems}
 use Rattle.node.proofs.Array.{length-mapped}
@@ -13,10 +13,10 @@ use Rattle.sending.proofs.row_items.Statement.{statement}
 use Rattle.sending.proofs.row_items.Tie as tie
 
 abbrev Inv-loop : tie.InvT-loop
-Inv-loop node items₀ k₀ items k = (k ≤ maxNodes) × (length items ≡ maxNodes) × (length (node .rows) ≡ maxNodes) × (take k items ≡ take k (rowItems node))
+Inv-loop node items₀ i₀ items i = (i ≤ maxNodes) × (length items ≡ maxNodes) × (length (node .rows) ≡ maxNodes) × (take i items ≡ take i (rowItems node))
 
 abbrev μ-loop : tie.MeasureT-loop
-μ-loop node items₀ k₀ items k = maxNodes - k
+μ-loop node items₀ i₀ items i = maxNodes - i
 
 zero-requires : tie.Need-zero-requires Inv-loop μ-loop
 zero-requires c κs = search needs
@@ -36,17 +36,17 @@ mul-items c = search needs
 array-set-from-items : tie.Need-array-set-from-items Inv-loop μ-loop
 array-set-from-items c = search needs
 
-add-k : tie.Need-add-k Inv-loop μ-loop
-add-k c = search needs
+add-i : tie.Need-add-i Inv-loop μ-loop
+add-i c = search needs
 
 loop-less : tie.Need-loop-less Inv-loop μ-loop
 loop-less c = search needs
 
 loop-again : tie.Need-loop-again Inv-loop μ-loop
-loop-again c = let l = c .before .before .before .loop in let a = c .before .before .before .before .before .args in (omega arith, length-set (l .items) (l .k) _ ∙ l .inv .1, l .inv .2, items-turn (a .t1) (l .items) (l .k) (omega (arith, l .inv .1)) (omega (arith, l .inv .2)) (l .inv .3))
+loop-again c = let l = c .before .before .before .loop in let a = c .before .before .before .before .before .args in (omega arith, length-set (l .items) (l .i) _ ∙ l .inv .1, l .inv .2, items-turn (a .t1) (l .items) (l .i) (omega (arith, l .inv .1)) (omega (arith, l .inv .2)) (l .inv .3))
 
 returns : tie.Need-returns Inv-loop μ-loop
-returns c = let l = c .before .loop in let a = c .before .before .before .args in items-end (a .t1) (l .items) (l .k) (omega (arith, l .inv .1)) (omega (arith, l .inv .2)) (l .inv .3)
+returns c = let l = c .before .loop in let a = c .before .before .before .args in items-end (a .t1) (l .items) (l .i) (omega (arith, l .inv .1)) (omega (arith, l .inv .2)) (l .inv .3)
 
 pub row-items-spec : {M : Type 1} → statement M
 row-items-spec =
@@ -60,7 +60,7 @@ row-items-spec =
     element-copy-out-row
     mul-items
     array-set-from-items
-    add-k
+    add-i
     loop-less
     loop-again
     returns)
