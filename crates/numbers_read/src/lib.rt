@@ -10,7 +10,8 @@ use numbers::COUNT;
 use numbers::ROWS_FIRST;
 ghost use Prim.Native.Nat.{_≤_};
 ghost use mathlib.Core.Path.{_≡_};
-ghost use mathlib.Core.Bool.{true};
+ghost use mathlib.Core.Bool.{true, cond};
+ghost use mathlib.Core.List.{[]};
 ghost use lib.ListN.{drop, length};
 ghost use Rattle.endian.specs.Zero.{allZero};
 ghost use Rattle.numbers.specs.Numbers.{fieldsFrom, isStated, numbersFit, stated};
@@ -65,9 +66,9 @@ fn fitting_fields(numbers: &[u64]) -> Fields
     }
 }
 
-// The fields that numbers say, where they fit; else those of no record.
+// The fields that numbers say, where they fit; else those that no numbers say, all 0.
 pub fn fields_in(numbers: &[u64]) -> Fields
-    ensures { λ r. ⌜ (numbersFit (now (numbers .entry)) ≡ true → r ≡ fieldsFrom (now (numbers .entry))) ⌝ }
+    ensures { λ r. ⌜ r ≡ cond (numbersFit (now (numbers .entry))) (fieldsFrom (now (numbers .entry))) (fieldsFrom []) ⌝ }
 {
     if !fit(numbers) {
         return Fields {

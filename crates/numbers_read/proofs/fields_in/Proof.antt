@@ -1,7 +1,6 @@
--- `numbers_read::fields_in` meets its contract: nothing is said of numbers that do not fit.
-use mathlib.Core.Path.{sym, _∙_}
-use mathlib.Core.Bool.{false≢true}
+-- `numbers_read::fields_in` meets its contract: all fields are 0 where the numbers do not fit.
 use Rattle.item.specs.Tests.{refuted, granted}
+use Rattle.numbers.specs.Numbers.{fieldsFrom}
 use borrow.Author.Needs.{needs}
 use Rattle.numbers_read.proofs.fields_in.Statement.{statement}
 use Rattle.numbers_read.proofs.fields_in.Tie as tie
@@ -13,13 +12,14 @@ zero-requires : tie.Need-zero-requires
 zero-requires c κs = search needs
 
 returns : tie.Need-returns
-returns c e = absurd (false≢true (sym (refuted (c .before .before .fit .ensures) (c .before .if1 .taken)) ∙ e))
+unfolding fieldsFrom
+returns c = rw (refuted (c .before .before .fit .ensures) (c .before .if1 .taken), c .zero .ensures)
 
 fitting-fields-requires : tie.Need-fitting-fields-requires
 fitting-fields-requires c κs = granted (c .before .fit .ensures) (c .if1 .left)
 
 returns-2 : tie.Need-returns-2
-returns-2 c e = c .fitting-fields .ensures
+returns-2 c = rw (granted (c .before .before .fit .ensures) (c .before .if1 .left)) (c .fitting-fields .ensures)
 
 pub fields-in-spec : {M : Type 1} → statement M
 fields-in-spec =

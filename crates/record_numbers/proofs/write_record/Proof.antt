@@ -4,7 +4,10 @@ use native.Mathlib.Omega.{arith}
 use denote.Ref.{now}
 use mathlib.Core.Path.{refl, ap, _∙_}
 use borrow.Rule.Slice.PartMut.{putMid}
+use mathlib.Core.Bool.{Bool, cond}
+use mathlib.Core.List.{[]}
 use Rattle.item.specs.Tests.{refuted, granted}
+use Rattle.numbers.specs.Numbers.{fieldsFrom}
 use Rattle.layout.specs.Layout.{recordSize}
 use Rattle.numbers.specs.NumberLaws.{fits}
 use Rattle.numbers.specs.ReadBack.{stated-fits}
@@ -77,7 +80,7 @@ returns-3 c =
     let says = granted (t .before .is-stated .ensures) (t .if2 .left) in
     let f = rows .before .fields-in in
     let law =
-    write-stated (now (a .bytes)) (a .«record») (a .n) ns _ (f .result) _ (omega (arith, e .if1 .left)) says refl (f .ensures (fits ns (stated-fits (a .n) ns says))) (rows .rows-in .ensures) in
+    write-stated (now (a .bytes)) (a .«record») (a .n) ns _ (f .result) _ (omega (arith, e .if1 .left)) says refl (f .ensures ∙ ap (λ (b : Bool). cond b (fieldsFrom ns) (fieldsFrom [])) (fits ns (stated-fits (a .n) ns says))) (rows .rows-in .ensures) in
     (law .0, ap (putMid (a .«record» * recordSize) (a .«record» * recordSize + recordSize - a .«record» * recordSize) (now (a .bytes))) (w .write-record .ensures) ∙ law .1)
 
 pub write-record-spec : {M : Type 1} → statement M
