@@ -126,9 +126,9 @@ impl Stopwatch {
     pub fn reading(&mut self, kind: u8, name: &str, form: Form) -> Pair {
         let mut random = Random::new(kind.into());
         let records: Vec<_> = (0..64).map(|_| scripts::record(&mut random, kind, 15)).collect();
-        let mut numbers = Record::default();
+        let (mut theirs, mut ours) = (Record::default(), Record::default());
         let mut library = |bytes: &[u8]| {
-            assert!(yagvost::read_record_into(bytes, 0, 15, black_box(&mut numbers)));
+            assert!(yagvost::read_record_into(bytes, 0, 15, black_box(&mut ours)));
         };
         let what = format!("read {name}{}", form.words());
         match form {
@@ -145,7 +145,7 @@ impl Stopwatch {
             Form::Numbers => self.time(what, records.len(), |is_library| {
                 for bytes in &records {
                     match is_library {
-                        false => assert!(black_box(numbers_of(black_box(bytes))).is_some()),
+                        false => assert!(read_numbers(black_box(bytes), black_box(&mut theirs))),
                         true => library(black_box(bytes)),
                     }
                 }
@@ -203,14 +203,34 @@ impl Stopwatch {
 
 /// The baseline's letter in a record as the library's numbers.
 #[inline(never)]
-fn numbers_of(bytes: &[u8; RECORD_BYTES]) -> Option<Record> {
-    layout::read_record(bytes, 15).ok().map(|letter| record(&letter))
+fn read_numbers(bytes: &[u8; RECORD_BYTES], numbers: &mut Record) -> bool {
+    let Ok(letter) = layout::read_record(bytes, 15) else {
+        return false;
+    };
+    *numbers = record(&letter);
+    true
 }
 
-/// The library's numbers written as a record by the baseline.
+/// The library's numbers written as a record by the baseline, refused where
+/// the library refuses them.
 #[inline(never)]
 fn write_numbers(to: &mut [u8], numbers: &Record) -> bool {
-    letter(numbers).is_some_and(|letter| layout::write_record(to, &letter, 15).is_ok())
+    unused_are_zero(numbers)
+        && letter(numbers).is_some_and(|letter| layout::write_record(to, &letter, 15).is_ok())
+}
+
+/// Is every number zero that a message of this kind has no use for, in a group
+/// of 15?
+fn unused_are_zero(numbers: &Record) -> bool {
+    let rows = numbers.rows.iter().fold(0, |all, row| all | row.index | row.tag);
+    let write = numbers.attempt | numbers.item.index | numbers.item.tag;
+    match numbers.kind {
+        1 => numbers.other | rows == 0,
+        2..=4 => rows == 0,
+        5 => numbers.other | write | rows == 0,
+        6 => write == 0,
+        _ => false,
+    }
 }
 
 /// The time of one step: rounds are run until this much time has passed, at
