@@ -1,5 +1,5 @@
--- A node that is Up, Idle and at rest is sound exactly if its rows are (`rest-sound`), and in a group that has a node for each
--- row they are (`rest-rows`).
+-- A node that is Up, Idle and at rest is sound exactly if its rows are (`rest-sound`). In a group that has a node for each row
+-- they are (`rest-rows`), and in any group exactly if the numbers in the rows from n on are zero (`rest-unused`).
 use Prim.Native.Nat.{ℕ, suc, _+_, _≤_}
 use mathlib.Core.Path.{_≡_, refl}
 use mathlib.Core.Bool.{true, false, not, _&&_, and-true}
@@ -10,7 +10,8 @@ use lib.ListN.{length}
 use Rattle.item.specs.Tests.{and-left, and-right}
 use Rattle.counters.specs.declared.Attempt.{Attempt}
 use Rattle.item.specs.declared.Row.{Row}
-use Rattle.counters.specs.Counter.{sameIncarnation}
+use Rattle.counters.specs.Counter.{sameIncarnation, sameAttempt}
+use Rattle.item.specs.Row.{sameRow}
 use Rattle.protocol.specs.declared.Node.{Node}
 use Rattle.protocol.specs.declared.Peer.{Peer}
 use Rattle.protocol.specs.declared.Phase.{Phase}
@@ -19,7 +20,7 @@ use Rattle.protocol.specs.Node.{half, countPeers}
 use Rattle.protocol.specs.Phase.{isUpIdle, isConfirming, isConfirmingStage}
 use Rattle.protocol.proofs.Phases.{up-idle-is}
 use Rattle.protocol.specs.Sound.{everyFrom, rowUse, rowFits, rowSound, rowsSound, peerSound, peersSound, stageCounts, phaseCounts, attemptFits, countedAsked, soundNode}
-use Rattle.idle_soundness.specs.Rest.{unmarked, absent, atRest}
+use Rattle.idle_soundness.specs.Rest.{unmarked, absent, atRest, numbersZero, unusedRowZero, unusedZero}
 
 -- ---- peers of whom nobody is counted or asked
 
@@ -55,6 +56,22 @@ unmarked-sound n k [] h e = refl
 unmarked-sound n k (row ∷ rows) h e =
     rw (lt-ltb k n (omega arith), and-left (not (row .marked)) (everyFrom unmarked (suc k) rows) e)
     (unmarked-sound n (suc k) rows (omega arith) (and-right (not (row .marked)) (everyFrom unmarked (suc k) rows) e))
+
+-- ---- rows of any group: of a row that is not marked nothing is left to look at but the numbers, and these from n on
+
+unmarked-row : (n k : ℕ) (row : Row) → row .marked ≡ false → rowSound Stored n k row ≡ unusedRowZero n k row
+unfolding rowSound rowFits sameRow unusedRowZero numbersZero
+unmarked-row n k row e = rw (e, and-true (sameAttempt (row .attempt) (record { 0 = 0 })))
+
+unmarked-unused : (n k : ℕ) (rows : List Row) → everyFrom unmarked k rows ≡ true
+    → everyFrom (rowSound Stored n) k rows ≡ everyFrom (unusedRowZero n) k rows
+unfolding everyFrom unmarked
+unmarked-unused n k [] e = refl
+unmarked-unused n k (row ∷ rows) e =
+    rw (
+      unmarked-row n k row (not-true (row .marked) (and-left (not (row .marked)) (everyFrom unmarked (suc k) rows) e)),
+      unmarked-unused n (suc k) rows (and-right (not (row .marked)) (everyFrom unmarked (suc k) rows) e),
+    )
 
 -- ---- what the phase asks
 
@@ -119,3 +136,10 @@ module _ (node : Node) (rest : atRest node ≡ true) where
     rest-rows h =
         rw (rows-stored (node .phase) idle (countPeers (node .counted)))
         (unmarked-sound n 0 (node .rows) (omega arith) rows-unmarked)
+
+    -- and in any group exactly if the numbers in the rows from n on are zero
+    pub rest-unused : rowsSound n node ≡ unusedZero n node
+    unfolding rowsSound unusedZero
+    rest-unused =
+        rw (rows-stored (node .phase) idle (countPeers (node .counted)))
+        (unmarked-unused n 0 (node .rows) rows-unmarked)

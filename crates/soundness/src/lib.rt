@@ -2,6 +2,7 @@
 // Everything is proved, the public function has no `requires`, and each function gives what one definition of protocol's
 // specs/Sound says. Any node may be asked about.
 use idle_soundness::is_at_rest;
+use idle_soundness::unused_zero;
 use item::Attempt;
 use item::Incarnation;
 use node::count_peers;
@@ -18,8 +19,8 @@ ghost use mathlib.Core.Path.{_≡_};
 ghost use Rattle.protocol.specs.Sound.{everyFrom, peerSound, stageCounts, phaseCounts, attemptFits, amongAsked, countedAsked, peersSound, soundNode};
 
 // Whether the node is sound at this place of the table of a group of n. Most nodes are Up, Idle and at rest, and these are
-// judged here. Whether a node is at rest is asked before anything else is decided: so the compiler reads the node where it
-// stands, and copies none.
+// judged here, by the numbers in their rows from n on if there are such rows. Whether a node is at rest is asked before
+// anything else is decided: so the compiler reads the node where it stands, and copies none.
 pub fn node_sound(n: usize, place: usize, node: Node) -> bool
     ensures { λ r. ⌜ r ≡ soundNode n place node ⌝ }
 {
@@ -40,7 +41,7 @@ pub fn node_sound(n: usize, place: usize, node: Node) -> bool
     if Node::MAX_ROWS <= n {
         return true;
     }
-    rows_sound(n, node)
+    unused_zero(n, node)
 }
 
 // Whether a node of this number and this n is sound: its fields looked at one after the other. With two calls it stays a

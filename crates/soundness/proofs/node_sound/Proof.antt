@@ -1,5 +1,6 @@
 -- `soundness::node_sound` meets its contract: a node that is Up, Idle and at rest is sound exactly if its rows are (`rest-sound`), and these are
--- where the group has a node for each (`rest-rows`). Of any other node the fields are looked at.
+-- where the group has a node for each (`rest-rows`), or where no number stands in the unused ones (`rest-unused`). Of any other node the fields are
+-- looked at.
 use mathlib.Core.Path.{_≡_, sym, _∙_}
 use lib.ListN.{length}
 use native.Mathlib.Omega.{arith}
@@ -8,7 +9,7 @@ use Rattle.item.specs.Maxima.{maxNodes}
 use Rattle.item.specs.Tests.{granted}
 use Rattle.protocol.specs.Sound.{soundNode}
 use Rattle.node.proofs.Array.{length-mapped}
-use Rattle.idle_soundness.proofs.Resting.{rest-sound, rest-rows}
+use Rattle.idle_soundness.proofs.Resting.{rest-sound, rest-rows, rest-unused}
 use Rattle.soundness.proofs.node_sound.Statement.{statement}
 use Rattle.soundness.proofs.node_sound.Tie as tie
 
@@ -54,8 +55,8 @@ returns-5 c =
     (rest-sound (a .node) rest (a .n) idle (a .place) (s .before .before .if1 .left) (s .if2 .left)
     ∙ rest-rows (a .node) rest (a .n) idle (omega arith))
 
-rows-sound-requires : tie.Need-rows-sound-requires
-rows-sound-requires c κs = tt
+unused-zero-requires : tie.Need-unused-zero-requires
+unused-zero-requires c κs = tt
 
 returns-6 : tie.Need-returns-6
 returns-6 c =
@@ -65,8 +66,10 @@ returns-6 c =
     let a = r .before .args in
     let rest = granted (r .is-at-rest .ensures) (i .before .if3 .left) in
     let idle = granted (i .is-up-idle .ensures) (c .before .before .if4 .left) in
-    c .rows-sound .ensures
-    ∙ sym (rest-sound (a .node) rest (a .n) idle (a .place) (s .before .before .if1 .left) (s .if2 .left))
+    c .unused-zero .ensures
+    ∙ sym
+    (rest-sound (a .node) rest (a .n) idle (a .place) (s .before .before .if1 .left) (s .if2 .left)
+    ∙ rest-unused (a .node) rest (a .n) idle)
 
 pub node-sound-spec : {M : Type 1} → statement M
 node-sound-spec =
@@ -81,5 +84,5 @@ node-sound-spec =
     fields-sound-requires-2
     returns-4
     returns-5
-    rows-sound-requires
+    unused-zero-requires
     returns-6)
