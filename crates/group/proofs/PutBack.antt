@@ -31,6 +31,7 @@ use Rattle.protocol.specs.declared.Step.{Step}
 use Rattle.outcome.specs.Act as one
 use Rattle.outcome.specs.Act.{Outcome, addresseeOf, placeOf, lookAt}
 use Rattle.outcome.specs.declared.Seen.{Seen}
+use Rattle.outcome.proofs.Laws.{first-table, first-taken, acted-refused, acted-taken}
 use Rattle.place.specs.AtPlace.{putBack, atPlace}
 
 -- a node that is put back as it was changes nothing
@@ -126,17 +127,23 @@ module _ (e : Event) (table : List Node) (store : List ℕ) where
   withSeen seen = atPlace e (soundTable (seen .n) table) seen table store
 
   performed-wrong : rightLength store ≡ false → byNode ≡ whole.perform e table store
-  unfolding atPlace one.acted whole.perform lookAt
+  unfolding atPlace one.acted one.actedOn one.firstVerdict whole.perform lookAt
   performed-wrong p = rw p (refused-at table store place StoreLength)
 
   performed-unsound : rightLength store ≡ true → soundRecords (recordsOf store) ≡ false → byNode ≡ whole.perform e table store
-  unfolding atPlace one.acted whole.perform whole.onRecords
+  unfolding atPlace one.acted one.actedOn one.firstVerdict whole.perform whole.onRecords
   performed-unsound p q = ap withSeen (seen-unsound p q) ∙ rw (p, q) (refused-at table store place Unsound)
 
+  -- on a sound store the table decides
+  judged : (t : Bool) (seen : Seen) → rightLength store ≡ true → seen .sound ≡ true → one.acted e t seen node store ≡ cond t (one.onSound e node store seen) (one.refuse Unsound node store)
+  judged true seen p q = acted-taken store true seen e node (first-taken store true seen p q refl)
+  judged false seen p q = acted-refused store false seen e node (first-table store false seen p q refl)
+
   performed-sound : rightLength store ≡ true → soundRecords (recordsOf store) ≡ true → byNode ≡ whole.perform e table store
-  unfolding atPlace one.acted whole.perform whole.onRecords
+  unfolding atPlace whole.perform whole.onRecords
   performed-sound p q =
       ap withSeen (seen-sound p q)
+      ∙ ap (putBack table place) (judged (soundTable (groupSize (recordsOf store)) table) (sound-seen table store place p) p refl)
       ∙ rw (p, q) (back-cond table place (soundTable (groupSize (recordsOf store)) table) _ _
       ∙ (λ i. cond (soundTable (groupSize (recordsOf store)) table) (sound-at table store p e i) (refused-at table store place Unsound i)))
 

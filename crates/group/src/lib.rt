@@ -14,5 +14,5 @@ pub fn perform(table: &mut [Node], store: &mut [u8], event: Event) -> Answer
 {
     let seen = act::look(store, event);
     let sound = table_check::check_table(table, seen.n);
-    place::act_at_place(table, store, sound, seen, event)
+    applying::apply(table, store, sound, seen, event)
 }

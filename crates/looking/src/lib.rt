@@ -1,11 +1,12 @@
 // What is seen of store and event before the table is read. Everything is proved, no public function has a `requires`,
 // and each gives what one definition of the crate `outcome` says.
+use outcome::Dropping;
 use outcome::Seen;
 use protocol::Event;
 use record::Reading;
 ghost use mathlib.Core.Path.{_≡_};
 ghost use Rattle.store.specs.Sound.{messageAt};
-ghost use Rattle.outcome.specs.Act.{addresseeOf, placeOf, lookAt};
+ghost use Rattle.outcome.specs.Act.{addresseeOf, placeOf, noDrop, droppingOf, lookAt};
 
 // The addressee of a message; 0 where there is none.
 fn addressee(reading: Reading) -> usize
@@ -36,6 +37,33 @@ fn place(s: &[u8], event: Event) -> usize
         Event::Start { node } => node as usize,
         Event::Drop { record } => addressee_at(s, record),
         Event::Deliver { record } => addressee_at(s, record),
+    }
+}
+
+// It is not a Drop.
+fn no_drop() -> Dropping
+    ensures { λ r. ⌜ r ≡ noDrop ⌝ }
+{
+    Dropping {
+        drops: false,
+        number: 0,
+    }
+}
+
+// Which record the event drops.
+pub fn dropping(event: Event) -> Dropping
+    ensures { λ r. ⌜ r ≡ droppingOf event ⌝ }
+{
+    match event {
+        Event::Write { node: _, tag: _ } => no_drop(),
+        Event::Retry { node: _ } => no_drop(),
+        Event::Crash { node: _ } => no_drop(),
+        Event::Start { node: _ } => no_drop(),
+        Event::Drop { record } => Dropping {
+            drops: true,
+            number: record,
+        },
+        Event::Deliver { record: _ } => no_drop(),
     }
 }
 

@@ -27,10 +27,13 @@ use Rattle.protocol.specs.declared.Answer.the-variants as answer
 use Rattle.protocol.specs.declared.Event.{Event}
 use Rattle.protocol.specs.declared.Event.the-variants as event
 use Rattle.protocol.specs.declared.Node.{Node}
+use Rattle.protocol.specs.declared.Refusal.{Refusal}
 use Rattle.protocol.specs.declared.Refusal.the-variants.{StoreLength, Unsound, NoNode, NoRoom, NoMessage}
 use Rattle.protocol.specs.declared.Step.{Step}
+use Rattle.protocol.specs.declared.Verdict.{Verdict}
+use Rattle.protocol.specs.declared.Verdict.the-variants.{Take, Refuse}
 use Rattle.outcome.specs.declared.Seen.{Seen}
-use Rattle.outcome.specs.Act.{Outcome, refuse, sentBy, carriedOut, atNode, dropped, delivered, onSound, acted}
+use Rattle.outcome.specs.Act.{Outcome, droppingOf, refuse, sentBy, carriedOut, atNode, dropped, delivered, onSound, firstVerdict, actedOn, acted}
 
 -- where a message is found the store has its length
 pub found-length : (store : List ℕ) (r : ℕ) {e : Envelope} → messageAt store r ≡ Found e
@@ -116,19 +119,52 @@ module _ (node : Node) (store : List ℕ) (seen : Seen) {e : Event} where
   unfolding onSound
   sound-deliver p = ap (λ (v : Event). onSound v node store seen) p
 
-module _ (e : Event) (t : Bool) (seen : Seen) (node : Node) (store : List ℕ) where
-  pub acted-length : length store ≢ recordCount * recordSize → acted e t seen node store ≡ refuse StoreLength node store
-  unfolding acted rightLength
-  acted-length d = rw (ne-eqb (length store) (recordCount * recordSize) d)
+module _ (store : List ℕ) (t : Bool) (seen : Seen) where
+  pub first-length : length store ≢ recordCount * recordSize → firstVerdict store t seen ≡ Refuse StoreLength
+  unfolding firstVerdict rightLength
+  first-length d = rw (ne-eqb (length store) (recordCount * recordSize) d)
 
-  pub acted-store : rightLength store ≡ true → seen .sound ≡ false → acted e t seen node store ≡ refuse Unsound node store
-  unfolding acted
-  acted-store p q = rw (p, q)
+  pub first-store : rightLength store ≡ true → seen .sound ≡ false → firstVerdict store t seen ≡ Refuse Unsound
+  unfolding firstVerdict
+  first-store p q = rw (p, q)
 
-  pub acted-table : rightLength store ≡ true → seen .sound ≡ true → t ≡ false → acted e t seen node store ≡ refuse Unsound node store
-  unfolding acted
-  acted-table p q h = rw (p, q, h)
+  pub first-table : rightLength store ≡ true → seen .sound ≡ true → t ≡ false → firstVerdict store t seen ≡ Refuse Unsound
+  unfolding firstVerdict
+  first-table p q h = rw (p, q, h)
 
-  pub acted-sound : rightLength store ≡ true → seen .sound ≡ true → t ≡ true → acted e t seen node store ≡ onSound e node store seen
-  unfolding acted
-  acted-sound p q h = rw (p, q, h)
+  pub first-taken : rightLength store ≡ true → seen .sound ≡ true → t ≡ true → firstVerdict store t seen ≡ Take
+  unfolding firstVerdict
+  first-taken p q h = rw (p, q, h)
+
+  module _ (e : Event) (node : Node) where
+    pub acted-refused : {why : Refusal} → firstVerdict store t seen ≡ Refuse why → acted e t seen node store ≡ refuse why node store
+    unfolding acted actedOn
+    acted-refused p = ap (λ (v : Verdict). actedOn v e seen node store) p
+
+    pub acted-taken : firstVerdict store t seen ≡ Take → acted e t seen node store ≡ onSound e node store seen
+    unfolding acted actedOn
+    acted-taken p = ap (λ (v : Verdict). actedOn v e seen node store) p
+
+-- ---- a Drop looks at no node
+
+pub dropped-node : (m : Reading) (node : Node) (store : List ℕ) (r : ℕ) → dropped m node store r .node ≡ node
+unfolding dropped
+dropped-node Fault node store r = refl
+dropped-node (Found e) node store r = refl
+
+pub drop-node : (r : ℕ) (t : Bool) (seen : Seen) (node : Node) (store : List ℕ) → acted (event.Drop r) t seen node store .node ≡ node
+unfolding acted actedOn onSound
+drop-node r t seen node store = go (firstVerdict store t seen)
+  where
+    go : (v : Verdict) → actedOn v (event.Drop r) seen node store .node ≡ node
+    go (Refuse why) = refl
+    go Take = dropped-node (messageAt store r) node store r
+
+pub dropping-is : (e : Event) → droppingOf e .drops ≡ true → e ≡ event.Drop (droppingOf e .number)
+unfolding droppingOf
+dropping-is (event.Write k tag) p = cc
+dropping-is (event.Retry k) p = cc
+dropping-is (event.Crash k) p = cc
+dropping-is (event.Start k) p = cc
+dropping-is (event.Drop r) p = refl
+dropping-is (event.Deliver r) p = cc

@@ -25,7 +25,10 @@ use Rattle.protocol.specs.declared.Node.{Node}
 use Rattle.protocol.specs.declared.Refusal.{Refusal}
 use Rattle.protocol.specs.declared.Refusal.the-variants.{GroupSize, StoreLength, Unsound, NoNode, NoRoom, NoMessage}
 use Rattle.protocol.specs.declared.Step.{Step}
+use Rattle.protocol.specs.declared.Verdict.{Verdict}
+use Rattle.protocol.specs.declared.Verdict.the-variants.{Take, Refuse}
 use Rattle.outcome.specs.declared.Acted.{Acted}
+use Rattle.outcome.specs.declared.Dropping.{Dropping}
 use Rattle.outcome.specs.declared.Seen.{Seen}
 
 -- ---- before the table is read
@@ -53,6 +56,18 @@ lookAt e store =
       free = survey store .free;
       place = placeOf e store;
     }
+
+abbrev pub noDrop : Dropping
+noDrop = record { drops = false; number = 0 }
+
+-- which record an event drops
+unfoldable pub droppingOf : Event → Dropping
+droppingOf (event.Write k tag) = noDrop
+droppingOf (event.Retry k) = noDrop
+droppingOf (event.Crash k) = noDrop
+droppingOf (event.Start k) = noDrop
+droppingOf (event.Drop r) = record { drops = true; number = r }
+droppingOf (event.Deliver r) = noDrop
 
 -- ---- one node and the store
 
@@ -113,9 +128,15 @@ onSound (event.Start k) node store look = atNode node store look k (startStep no
 onSound (event.Drop r) node store look = dropped (messageAt store r) node store r
 onSound (event.Deliver r) node store look = delivered (messageAt store r) node store (look .free) r
 
--- "2 as above; 3: store or table unsound; then 4"
+-- "2 as above; 3: store or table unsound"
+unfoldable pub firstVerdict : List ℕ → Bool → Seen → Verdict
+firstVerdict store soundTable look =
+    cond (rightLength store) (cond (look .sound && soundTable) Take (Refuse Unsound)) (Refuse StoreLength)
+
+-- "then 4"
+unfoldable pub actedOn : Verdict → Event → Seen → Node → List ℕ → Outcome
+actedOn (Refuse why) e look node store = refuse why node store
+actedOn Take e look node store = onSound e node store look
+
 unfoldable pub acted : Event → Bool → Seen → Node → List ℕ → Outcome
-acted e soundTable look node store =
-    cond (rightLength store)
-    (cond (look .sound && soundTable) (onSound e node store look) (refuse Unsound node store))
-    (refuse StoreLength node store)
+acted e soundTable look node store = actedOn (firstVerdict store soundTable look) e look node store

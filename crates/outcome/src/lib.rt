@@ -1,5 +1,5 @@
-// What one event does to its node and to the store: the definitions (specs/Act), and the two structs by which it is told
-// what was seen before and what came of it.
+// What one event does to its node and to the store: the definitions (specs/Act), and the structs by which it is told what
+// was seen before and what came of it.
 use protocol::Answer;
 use protocol::Node;
 use protocol::Refusal;
@@ -16,6 +16,13 @@ pub struct Seen {
     pub free: usize,
     // Whose event it is: the node number given, or the addressee of the message. 0 where there is no message.
     pub place: usize,
+}
+
+// Which record an event drops.
+pub struct Dropping {
+    // Whether it is a Drop; of one that is not, the number is 0.
+    pub drops: bool,
+    pub number: u64,
 }
 
 // The answer, and the node afterwards.

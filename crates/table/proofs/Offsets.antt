@@ -8,6 +8,10 @@ nAt = 8
 abbrev pub placeAt : ℕ
 placeAt = 24
 
+-- of `act::Dropping`
+abbrev pub numberAt : ℕ
+numberAt = 8
+
 -- of a struct whose first field is an answer: what stands after it
 abbrev pub afterAnswer : ℕ
 afterAnswer = 24

@@ -1,6 +1,7 @@
 -- `act::on_sound` meets its contract: an arm for each event.
-use Rattle.outcome.proofs.Laws.{sound-write, sound-retry, sound-crash, sound-start, sound-drop, sound-deliver}
+use Rattle.outcome.proofs.Laws.{sound-write, sound-retry, sound-crash, sound-start, sound-drop, sound-deliver, dropped-node}
 use Rattle.outcome.specs.Act.{Outcome, handedBack}
+use Rattle.store.specs.Sound.{messageAt}
 use denote.Ref.{now}
 use mathlib.Core.Path.{_≡_, refl, sym, ap, _∙_}
 use borrow.Author.Needs.{needs}
@@ -83,7 +84,13 @@ same-length-5 : tie.Need-same-length-5
 same-length-5 c = search needs
 
 returns-5 : tie.Need-returns-5
-returns-5 c = let a = c .before .before .before .before .before .before .before .before .args in let e = sound-drop (a .node) (now (a .s)) (a .seen) (c .before .before .before .before .before .event5 .given .1) in let d = c .before .before .drop-message .ensures in (d .0 ∙ ap handedBack (sym e), d .1 ∙ ap (λ (o : Outcome). o .store) (sym e))
+returns-5 c =
+    let a = c .before .before .before .before .before .before .before .before .args in
+    let number = c .before .before .before .before .before .event5 .given .0 .0 in
+    let e = sound-drop (a .node) (now (a .s)) (a .seen) (c .before .before .before .before .before .event5 .given .1) in
+    let d = c .before .before .drop-message .ensures (a .node) in
+    let kept = sym (dropped-node (messageAt (now (a .s)) number) (a .node) (now (a .s)) number) in
+    ((λ i. record { answer = d .0 i; node = kept i }) ∙ ap handedBack (sym e), d .1 ∙ ap (λ (o : Outcome). o .store) (sym e))
 
 same-length-6 : tie.Need-same-length-6
 same-length-6 c = search needs

@@ -1,4 +1,4 @@
--- `group::perform` meets its contract: a walk of its MIR, by hand. The store is lent as a `&` to `look` and comes back, and so is the table to `check_table`; then `act_at_place` is given both for good.
+-- `group::perform` meets its contract: a walk of its MIR, by hand. The store is lent as a `&` to `look` and comes back, and so is the table to `check_table`; then `apply` is given both for good.
 -- All that the proof knows of the callees is that they meet their contracts.
 -- Assumes nothing.
 use mathlib.Core.Path.{_≡_, refl, _∙_, ap, subst}
@@ -69,10 +69,10 @@ use Rattle.table_check.proofs.check_table as checks
 use Rattle.table_check.proofs.check_table.Symbol as check-def
 use Rattle.table_check.proofs.check_table.Symbol.{name as #check}
 use Rattle.table_check.proofs.check_table.Met as check-thm
-use Rattle.place.proofs.act_at_place as place
-use Rattle.place.proofs.act_at_place.Symbol as place-def
-use Rattle.place.proofs.act_at_place.Symbol.{name as #place}
-use Rattle.place.proofs.act_at_place.Met as place-thm
+use Rattle.applying.proofs.apply as place
+use Rattle.applying.proofs.apply.Symbol as place-def
+use Rattle.applying.proofs.apply.Symbol.{name as #place}
+use Rattle.applying.proofs.apply.Met as place-thm
 use Rattle.group.proofs.perform.Key.{name as #perform}
 use Rattle.group.proofs.perform as perform
 use Rattle.group.proofs.perform.Statement as stated
@@ -169,7 +169,7 @@ module _ {M : Type 1} (𝓤 : URA M) (H : Heap 𝓤) (A : Atoms 𝓤) (W : Given
   seen-is : (r : Seen) (vs : List Val) → Is S.the-row r vs → Is S.the-row r (seen-val r ∷ [])
   seen-is r vs is = subst (Is S.the-row r) (LL.tells S.the-type S′.the-laws r vs is) is
 
-  -- what `act_at_place` and `perform` ensure
+  -- what `apply` and `perform` ensure
   abbrev Places : Seen → Bool → Answer → List Node → List ℕ → Type 0
   Places seen t r l m = (r ≡ atPlace e t seen ys st .answer) × ((l ≡ atPlace e t seen ys st .table) × (m ≡ atPlace e t seen ys st .store))
 
@@ -209,7 +209,7 @@ module _ {M : Type 1} (𝓤 : URA M) (H : Heap 𝓤) (A : Atoms 𝓤) (W : Given
         use1 W (later (some (λ (r : Bool). ((‵ (flft (ν ∷ []) fullShare) ⊛ ‵ ftrue) ⊛ ‵ (bool .own r (w₁ ∷ []))) ⊛ raw (ensured 𝓤 H A checks.ended (checks.clauses 𝓤 H A mem run) (ν ∷ [], tt) (x δ, (r₀ .n, tt)) tt r)))) (id⊢ 𝓤 _) $ await ! tt $ pick ! (λ r₁. split ! $ move ! (1 ∷ []) $
         use1 W (raw (fact 𝓤 (r₁ ≡ soundTable (r₀ .n) ys))) (check-of 𝓤 H A mem run (ν ∷ []) (x δ) (r₀ .n) r₁) $ heard ! (r₁ ≡ soundTable (r₀ .n) ys) (λ e₁. split ! $ split ! $ move ! (2 ∷ []) $ peeks ! bool (Is bool) (shows 𝓤 H A bool) r₁ (w₁ ∷ []) (λ is₁. land ! (from ! (stop !)) (init ! 26 refl (bool-lawful 𝓤 H A W .typed r₁ _ is₁ .0)) $
         move ! (1 ∷ []) $ lft-end ! tt $ move ! (0 ∷ 3 ∷ []) $ use2 W (later (‵ (MutSlice (named 0) κ T.the-row .own (x γ) (s ∷ [])) ⊛ ‵ (flft κ q))) (shared-back T.the-row κ (ν ∷ []) q γ b o 𝓤 H A W (named 0) (named 0) ys room) $ await ! tt $ split ! $
-        -- `act_at_place`, which is given both for good
+        -- `apply`, which is given both for good
         assigns ! (addr ! (from ! (fld ! refl (hop ! (look-in ! 34 (sub ! 0 refl (whole !))) (stop !))))) (from ! (stop !)) (init ! 16 refl (tt, tt)) $
         assigns ! (agg ! (and-then ! (load ! (from ! (stop !)) (look ! 16 refl)) (and-then ! (load ! (from ! (fld ! refl (stop !))) (look-in ! 34 (sub ! 1 refl (whole !)))) (no-more !)))) (from ! (stop !)) (init ! 14 refl (tt, (tt, (record { fits = room .0 }, tt)))) $
         assigns ! (addr ! (from ! (fld ! refl (hop ! (look-in ! 32 (sub ! 0 refl (whole !))) (stop !))))) (from ! (stop !)) (init ! 12 refl (tt, tt)) $
@@ -244,4 +244,4 @@ perform-spec 𝓤 H 𝓜 𝓖 𝓡 =
     (perform-meets 𝓤 H (𝓖 .A) (givenOf 𝓤 H 𝓜 𝓖) (𝓜 .mem) (𝓡 .run) (tablesOf 𝓤 H 𝓜 (tables 𝓤 H 𝓜 𝓡 code.env))
     (cited 𝓤 H (Look 𝓤 H (𝓖 .A) (𝓜 .mem) (𝓡 .run)) 𝓜 𝓡 code.env #look look-def.routine code.calls-act·look (look-thm.met 𝓤 H 𝓜 𝓖 𝓡))
     (cited 𝓤 H (Check 𝓤 H (𝓖 .A) (𝓜 .mem) (𝓡 .run)) 𝓜 𝓡 code.env #check check-def.routine code.calls-table-check·check-table (check-thm.met 𝓤 H 𝓜 𝓖 𝓡))
-    (cited 𝓤 H (Place 𝓤 H (𝓖 .A) (𝓜 .mem) (𝓡 .run)) 𝓜 𝓡 code.env #place place-def.routine code.calls-place·act-at-place (place-thm.met 𝓤 H 𝓜 𝓖 𝓡)))
+    (cited 𝓤 H (Place 𝓤 H (𝓖 .A) (𝓜 .mem) (𝓡 .run)) 𝓜 𝓡 code.env #place place-def.routine code.calls-applying·apply (place-thm.met 𝓤 H 𝓜 𝓖 𝓡)))

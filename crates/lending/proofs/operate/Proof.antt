@@ -57,9 +57,9 @@ use Rattle.lending.specs.declared.Asked.{Asked}
 use Rattle.lending.specs.Lending.{firstNodes, operated, operatedFirst}
 use Rattle.lending.proofs.Asked as Q
 use Rattle.lending.proofs.Asked.Laws as Q′
-use Rattle.table.proofs.Walk.{env-of}
+use Rattle.table.proofs.Walk.{env-of, holds, fails}
 use Rattle.lending.proofs.First.{Gives, begins-gives, event-gives}
-use Rattle.lending.proofs.Walk.{beginsAt, eventAt, holds, fails}
+use Rattle.lending.proofs.Walk.{beginsAt, eventAt}
 use Rattle.group_setup.proofs.set_up as sets
 use Rattle.group_setup.proofs.set_up.Symbol as sets-def
 use Rattle.group_setup.proofs.set_up.Symbol.{name as #sets}

@@ -48,12 +48,11 @@ use Rattle.protocol.specs.declared.Node.{Node}
 use Rattle.protocol.proofs.Node as T
 use Rattle.protocol.proofs.Node.Laws as T′
 use Rattle.answering.specs.Carried.{Carried}
-use Rattle.lending.proofs.Walk.{holds, fails}
 use Rattle.session.specs.declared.Position.{Position}
 use Rattle.session.proofs.Position as P
 use Rattle.session.proofs.Position.Laws as P′
 use Rattle.table.proofs.Again.{LentAgain, lends-again, comes-back}
-use Rattle.table.proofs.Walk.{env-of, ty-of, after}
+use Rattle.table.proofs.Walk.{env-of, ty-of, after, holds, fails}
 use Rattle.lines.specs.Taking.{Takes}
 use Rattle.lines.proofs.Turns.{asksAt, left, nearer, turned}
 use Rattle.answering.proofs.answer_line as lines

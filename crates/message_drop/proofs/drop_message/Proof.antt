@@ -1,6 +1,6 @@
 -- `message_drop::drop_message` meets its contract.
 use Rattle.outcome.proofs.Laws.{dropped-none, dropped-some}
-use Rattle.outcome.specs.Act.{Outcome, handedBack}
+use Rattle.outcome.specs.Act.{Outcome}
 use denote.Ref.{now}
 use mathlib.Core.Path.{_≡_, refl, sym, ap, _∙_}
 use borrow.Author.Needs.{needs}
@@ -16,14 +16,14 @@ enum-known-envelope c = search needs
 enum-told : tie.Need-enum-told
 enum-told c = search needs
 
-refused-requires : tie.Need-refused-requires
-refused-requires c κs = search needs
-
 same-length : tie.Need-same-length
 same-length c = search needs
 
 returns : tie.Need-returns
-returns c = let a = c .before .before .before .before .before .before .args in let e = dropped-none (a .node) (now (a .s)) (a .r) (sym (c .before .before .before .message .ensures) ∙ c .before .enum-told .given .1) in (c .refused .ensures ∙ ap handedBack (sym e), ap (λ (o : Outcome). o .store) (sym e))
+returns c node =
+    let a = c .before .before .before .before .before .args in
+    let e = dropped-none node (now (a .s)) (a .r) (sym (c .before .before .message .ensures) ∙ c .enum-told .given .1) in
+    (ap (λ (o : Outcome). o .answer) (sym e), ap (λ (o : Outcome). o .store) (sym e))
 
 drop-message-requires : tie.Need-drop-message-requires
 drop-message-requires c κs = search needs
@@ -32,7 +32,11 @@ same-length-2 : tie.Need-same-length-2
 same-length-2 c = search needs
 
 returns-2 : tie.Need-returns-2
-returns-2 c = let a = c .before .before .before .before .before .before .before .before .before .before .args in let e = dropped-some (a .node) (now (a .s)) (a .r) (sym (c .before .before .before .before .before .before .before .message .ensures) ∙ c .before .before .before .before .before .envelope .given .1) in (ap handedBack (sym e), c .before .before .drop-message .ensures ∙ ap (λ (o : Outcome). o .store) (sym e))
+returns-2 c node =
+    let a = c .before .before .before .before .before .before .before .before .before .before .args in
+    let found = sym (c .before .before .before .before .before .before .before .message .ensures) ∙ c .before .before .before .before .before .envelope .given .1 in
+    let e = dropped-some node (now (a .s)) (a .r) found in
+    (ap (λ (o : Outcome). o .answer) (sym e), c .before .before .drop-message .ensures ∙ ap (λ (o : Outcome). o .store) (sym e))
 
 pub drop-message-spec : {M : Type 1} → statement M
 drop-message-spec =
@@ -41,7 +45,6 @@ drop-message-spec =
     message-requires
     enum-known-envelope
     enum-told
-    refused-requires
     same-length
     returns
     drop-message-requires
