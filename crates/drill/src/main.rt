@@ -1,5 +1,6 @@
 // The drill (document 01, Drill program): reads a script from standard input, and prints the answer of each line to
 // standard output. What the lines mean and what they print is decided in crates `progress`, `session` and `feeding`; here are the blocks.
+use feeding::STORE_ROOM;
 use feeding::feed;
 use libc::STDIN_FILENO;
 use libc::STDOUT_FILENO;
@@ -45,10 +46,10 @@ fn run(block: &mut [u8], store: &mut [u8], out: &mut [u8]) -> Progress {
 }
 
 fn main() {
-    let mut store = [0u8; store::LENGTH];
+    let mut room = [0u8; STORE_ROOM];
     let mut block = io::large_buffer();
     let mut out = io::large_buffer();
-    let last = run(&mut block, &mut store, &mut out);
+    let last = run(&mut block, &mut room[..store::LENGTH], &mut out);
     let at = finish(last, &mut out);
     io::write_all(STDOUT_FILENO, &out[..at]);
 }

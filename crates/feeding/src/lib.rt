@@ -12,6 +12,11 @@ ghost use mathlib.Core.Path.{_≡_};
 ghost use Rattle.progress.specs.Feeding.{Taken};
 ghost use Rattle.feeding.specs.Feeds.{Feeds, fedFrom};
 
+// The bytes of a local array whose first bytes are a store. The eight after the store are not used: with them it begins
+// at a multiple of sixteen, as functions on x86-64 begin their frames, and no read of its scan crosses a line of the
+// cache. Nothing but speed depends on it.
+pub const STORE_ROOM: usize = store::LENGTH + 8;
+
 // How far the piece was taken, and where the drill stands then.
 fn fed(position: Position, nodes: [Node; Node::MAX_NODES]) -> Fed
     ensures { λ r. ⌜ r ≡ fedFrom position nodes ⌝ }

@@ -1,5 +1,5 @@
--- Laws of a whole script: how long its output may be, and what a piece that is the whole script gives.
-use Prim.Native.Nat.{ℕ, suc, _+_, _-_, _*_, _<_, _≤_}
+-- Laws of a whole script: how long its output may be, what its store holds, and what a piece that is the whole script gives.
+use Prim.Native.Nat.{ℕ, zero, suc, _+_, _-_, _*_, _<_, _≤_}
 use native.Mathlib.Omega.{arith}
 use mathlib.Core.Path.{_≡_, refl, sym, ap, _∙_}
 use mathlib.Core.Bool.{Bool, true, false, cond}
@@ -56,10 +56,18 @@ pub drill-length : (script : List ℕ) → length (drillOutput script) ≤ lineR
 unfolding drillOutput
 drill-length script = output-length script 0 [] _ _
 
+-- ---- the store
+
+-- the first n of more elements that all are a
+pub first-of-replicate : (n k a : ℕ) → n ≤ k → take n (replicate k a) ≡ replicate n a
+first-of-replicate zero k a h = refl
+first-of-replicate (suc n) zero a h = absurd (omega arith)
+first-of-replicate (suc n) (suc k) a h = ap (λ (l : List ℕ). a ∷ l) (first-of-replicate n k a (omega arith))
+
 -- ---- the script as one piece
 
-module _ (script store out : List ℕ) (start last : Progress) (zero : List ℕ) (next at : ℕ)
-    (t : Taken script start zero next at out last store) (s : start ≡ atStart) (z : zero ≡ replicate (recordCount * recordSize) 0) where
+module _ (script store out : List ℕ) (start last : Progress) (zeros : List ℕ) (next at : ℕ)
+    (t : Taken script start zeros next at out last store) (s : start ≡ atStart) (z : zeros ≡ replicate (recordCount * recordSize) 0) where
   all-output : drillOutput script ≡ take at out ++ progressOutput last store (drop next script)
   all-output =
       sym (program-alike script)

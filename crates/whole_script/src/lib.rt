@@ -1,6 +1,7 @@
 // A drill's whole script, run at once over a store of its own. Everything is proved, the public function has no `requires`,
 // and what it prints is stated by specs/Script.
 use answers::LINE_ROOM;
+use feeding::STORE_ROOM;
 use feeding::feed;
 use progress::Progress;
 use progress::finish;
@@ -11,8 +12,8 @@ ghost use Rattle.whole_script.specs.Script.{ScriptRun};
 pub fn run(script: &[u8], out: &mut [u8]) -> usize
     ensures { λ r. ⌜ ScriptRun (now (script .entry)) (now (out .exit)) r ⌝ }
 {
-    let mut store = [0u8; store::LENGTH];
-    let fed = feed(script, Progress::start(), &mut store, out);
+    let mut room = [0u8; STORE_ROOM];
+    let fed = feed(script, Progress::start(), &mut room[..store::LENGTH], out);
     let at = fed.at;
     let last = fed.progress;
     if fed.next < script.len() {

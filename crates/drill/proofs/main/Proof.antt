@@ -14,6 +14,9 @@ large-buffer-requires-2 c κs = search needs
 slice-aggregate-run : tie.Need-slice-aggregate-run
 slice-aggregate-run c = search needs
 
+array-borrow-prefix-room : tie.Need-array-borrow-prefix-room
+array-borrow-prefix-room c = search needs
+
 slice-aggregate-run-2 : tie.Need-slice-aggregate-run-2
 slice-aggregate-run-2 c = search needs
 
@@ -48,6 +51,7 @@ main-spec =
     large-buffer-requires
     large-buffer-requires-2
     slice-aggregate-run
+    array-borrow-prefix-room
     slice-aggregate-run-2
     slice-aggregate-run-3
     run-requires
