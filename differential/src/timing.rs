@@ -95,14 +95,29 @@ impl Stopwatch {
 
     /// One line of a script of whole writes, in the process.
     pub fn event(&mut self, n: u8, held: usize) -> Pair {
-        let script = scripts::settling(n, held, 3000);
+        let what = format!("event, n {n}, {held} messages held");
+        self.line(what, scripts::settling(n, held, 3000))
+    }
+
+    /// One call that moves no message: a Drop of record 0, which is refused
+    /// once store and table have been checked.
+    pub fn refused(&mut self, n: u8) -> Pair {
+        self.line(format!("refused call, n {n}"), repeated(n, "x 0\n"))
+    }
+
+    /// One line that is no call: it is read, and answered with `?`.
+    pub fn unread(&mut self, n: u8) -> Pair {
+        self.line(format!("line that is no call, n {n}"), repeated(n, "x\n"))
+    }
+
+    /// One line of a script, in the process.
+    fn line(&mut self, what: String, script: Vec<u8>) -> Pair {
         let lines = script.iter().filter(|byte| **byte == b'\n').count();
         let (mut linked, mut out) = (Linked::default(), Vec::new());
         let mut run = |contender: &mut dyn Contender| {
             out.clear();
             contender.run_script(black_box(&script), &mut out);
         };
-        let what = format!("event, n {n}, {held} messages held");
         self.time(what, lines, |is_library| match is_library {
             false => run(&mut Baseline),
             true => run(&mut linked),
@@ -199,6 +214,13 @@ impl Stopwatch {
         }
         pair
     }
+}
+
+/// A script that sets up a group and then has 3,000 times the same line.
+fn repeated(n: u8, line: &str) -> Vec<u8> {
+    let mut script = format!("n {n}\n").into_bytes();
+    script.extend(line.repeat(3000).bytes());
+    script
 }
 
 /// The baseline's letter in a record as the library's numbers.

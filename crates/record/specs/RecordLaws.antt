@@ -17,7 +17,7 @@ use Rattle.record.specs.Layout.{recordOf, withRecord}
 use Rattle.message.specs.declared.Message.{Message}
 use Rattle.kinds.specs.declared.Fields.{Fields}
 use Rattle.kinds.specs.declared.Known.the-variants as known
-use Rattle.record.specs.declared.Reading.the-variants.{Found, Fault}
+use Rattle.record.specs.declared.Reading.the-variants.{Found}
 use Rattle.layout.specs.Layout.{recordSize, kindAt, fieldsIn}
 use Rattle.kinds.specs.Kind.{messageOf}
 use Rattle.record.specs.Record.{readRecord, readAs, zeroAfterRows, envelopeOf}
@@ -27,12 +27,6 @@ pub read-found : (n : ℕ) (r : List ℕ) (f : Fields) (m : Message) → length 
     → messageOf f ≡ known.Known m → zeroAfterRows n m r ≡ true → readRecord n r ≡ Found (envelopeOf f m)
 unfolding readRecord readAs
 read-found n r f m l ef em z = rw (eq-eqb (length r) recordSize l, ← ef, em, z, ef)
-
--- and one with another byte after them
-pub read-stray : (n : ℕ) (r : List ℕ) (f : Fields) (m : Message) → length r ≡ recordSize → f ≡ fieldsIn r
-    → messageOf f ≡ known.Known m → zeroAfterRows n m r ≡ false → readRecord n r ≡ Fault
-unfolding readRecord readAs
-read-stray n r f m l ef em z = rw (eq-eqb (length r) recordSize l, ← ef, em, z)
 
 -- of a number only its two lowest bytes are written
 pub with-low : (r : List ℕ) (at v : ℕ) → withNumber 2 r at (v % 65536) ≡ withNumber 2 r at v

@@ -46,6 +46,8 @@ fn main() -> ExitCode {
 struct Measures {
     effort: Effort,
     lines: Vec<Vec<Pair>>,
+    bare: Vec<Pair>,
+    unread: Vec<Pair>,
     checks: Vec<Vec<Pair>>,
     numbers: Records,
     letters: Records,
@@ -76,11 +78,13 @@ impl Measures {
     fn take(effort: Effort) -> Measures {
         let mut watch = Stopwatch::new(effort);
         let lines = grid(|n, held| watch.event(n, held));
+        let bare = SIZES.iter().map(|n| watch.refused(*n)).collect();
+        let unread = SIZES.iter().map(|n| watch.unread(*n)).collect();
         let checks = grid(|n, held| watch.check(n, held));
         let numbers = Records::take(&mut watch, Form::Numbers);
         let letters = Records::take(&mut watch, Form::Own);
         let (floor, floor_spread) = (watch.floor.best(), watch.floor.spread());
-        Measures { effort, lines, checks, numbers, letters, floor, floor_spread }
+        Measures { effort, lines, bare, unread, checks, numbers, letters, floor, floor_spread }
     }
 
     fn print(&self) {
@@ -93,6 +97,8 @@ impl Measures {
         println!("The floor, one plain pass over 65,280 bytes: {:.0} ns, {per_second:.0} a second, spread {:.0}%.\n", self.floor, self.floor_spread);
         println!("Events (one line of a script of whole writes):\n");
         self.print_pairs(self.lines.iter().flatten());
+        println!("Calls that move no message, and lines that are no call:\n");
+        self.print_pairs(self.bare.iter().chain(&self.unread));
         println!("Soundness checks:\n");
         self.print_pairs(self.checks.iter().flatten());
         println!("Records of a group of 15, from bytes to numbers and back:\n");
