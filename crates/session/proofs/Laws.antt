@@ -26,7 +26,7 @@ use Rattle.protocol.specs.declared.Answer.{Answer}
 use Rattle.protocol.specs.declared.Node.{Node}
 use Rattle.script.specs.declared.Line.{Line}
 use Rattle.script.specs.declared.Line.the-variants.{SetUp, Call, Unread}
-use Rattle.session.specs.Position.{isAsked, askedBy, sizeThen, restingAt, atRest, askingAt, restOutput, answerOutput, positionOutput, roomTaken, Reached}
+use Rattle.session.specs.Position.{isAsked, askedBy, sizeThen, restingAt, nothingAsked, askingAt, restOutput, answerOutput, positionOutput, roomTaken, Reached}
 use Rattle.session.specs.Steps.{Reads}
 use Rattle.session.specs.declared.Position.{Position}
 
@@ -114,6 +114,6 @@ pub begins : (piece : List ℕ) (start : Progress) (store out : List ℕ) → Re
 unfolding restingAt positionOutput restOutput roomTaken progressOutput
 begins piece start store out = record { output = λ rest. refl; within = (omega arith, omega arith); counted = counted-start piece (start .count) (start .pending .len) }
 
-pub from-rest : (piece out out′ : List ℕ) (x p : Position) (next at count : ℕ) (pending : Pending) (n : ℕ) → x ≡ restingAt next at count pending n → Reads piece out (atRest x) out′ p → Reads piece out (restingAt next at count pending n) out′ p
-unfolding atRest restingAt
-from-rest piece out out′ x p next at count pending n e r = subst (λ (y : Position). Reads piece out (atRest y) out′ p) e r
+pub from-rest : (piece out out′ : List ℕ) (x p : Position) (next at count : ℕ) (pending : Pending) (n : ℕ) → x ≡ restingAt next at count pending n → Reads piece out (nothingAsked x) out′ p → Reads piece out (restingAt next at count pending n) out′ p
+unfolding nothingAsked restingAt
+from-rest piece out out′ x p next at count pending n e r = subst (λ (y : Position). Reads piece out (nothingAsked y) out′ p) e r

@@ -43,8 +43,8 @@ sizeThen asked before answer = cond (asked .begins) (sizeAfter (asked .n) before
 unfoldable pub restingAt : ℕ → ℕ → ℕ → Pending → ℕ → Position
 restingAt next at count pending n = record { next = next; at = at; count = count; pending = pending; n = n; asks = false; asked = askedBy n Unread }
 
-unfoldable pub atRest : Position → Position
-atRest p = restingAt (p .next) (p .at) (p .count) (p .pending) (p .n)
+unfoldable pub nothingAsked : Position → Position
+nothingAsked p = restingAt (p .next) (p .at) (p .count) (p .pending) (p .n)
 
 -- the last line ended asks this
 unfoldable pub askingAt : ℕ → ℕ → ℕ → ℕ → Asked → Position

@@ -17,7 +17,7 @@ ghost use lib.Dec.{leb};
 ghost use lib.ListN.{length};
 ghost use Rattle.answers.specs.Output.{lineRoom};
 ghost use Rattle.progress.specs.Turn.{lineFor, sizeAfter};
-ghost use Rattle.session.specs.Position.{Onward, Reached, askedBy, askingAt, atRest, isAsked, restingAt, sizeThen};
+ghost use Rattle.session.specs.Position.{Onward, Reached, askedBy, askingAt, nothingAsked, isAsked, restingAt, sizeThen};
 ghost use Rattle.session.specs.Steps.{Answers, Reads};
 
 // Where a drill stands in a piece of its script: what was taken of the piece, how many bytes were printed for it, how
@@ -150,7 +150,7 @@ fn asking(next: usize, at: usize, count: u64, n: u64, asked: Asked) -> Position
 // Reads on up to the end of a line that asks something; a line that is unread is answered at once. It stops before a
 // line feed where `out` has no room for another line, and where no count is left.
 fn read_on(piece: &[u8], from: Position, out: &mut [u8]) -> Position
-    ensures { λ r. ⌜ Reads (now (piece .entry)) (now (out .entry)) (atRest from) (now (out .exit)) r ⌝ }
+    ensures { λ r. ⌜ Reads (now (piece .entry)) (now (out .entry)) (nothingAsked from) (now (out .exit)) r ⌝ }
 {
     let n = from.n;
     let mut count = from.count;

@@ -15,7 +15,7 @@ use Rattle.progress.specs.FeedingLaws.{line-within}
 use Rattle.progress.specs.Turn.{lineFor}
 use Rattle.progress.specs.declared.Progress.{Progress}
 use Rattle.protocol.specs.declared.Node.{Node}
-use Rattle.session.specs.Position.{Reached, restingAt, askingAt, atRest}
+use Rattle.session.specs.Position.{Reached, restingAt, askingAt, nothingAsked}
 use Rattle.session.specs.declared.Position.{Position}
 use Rattle.session.proofs.Laws.{rest-byte, rest-unread, rest-asks, not-asked}
 use borrow.Author.Needs.{needs}
@@ -95,7 +95,7 @@ same-length : tie.Need-same-length Inv-loop μ-loop
 same-length c = c .before .before .before .before .before .before .before .before .before .before .before .before .before .loop .inv .1 .1 .1 .0
 
 returns : tie.Need-returns Inv-loop μ-loop
-unfolding atRest askingAt restingAt
+unfolding nothingAsked askingAt restingAt
 returns c =
     let t = c .before .before in
     let r = t .before .before .before .before .before .before .before in
@@ -147,7 +147,7 @@ same-length-2 : tie.Need-same-length-2 Inv-loop μ-loop
 same-length-2 c = search needs
 
 returns-2 : tie.Need-returns-2 Inv-loop μ-loop
-unfolding atRest restingAt
+unfolding nothingAsked restingAt
 returns-2 c =
     let l = c .before .before .loop in
     rw (c .resting .ensures)
