@@ -105,7 +105,7 @@ impl Stopwatch {
         self.line(format!("refused call, n {n}"), repeated(n, "x 0\n"))
     }
 
-    /// One line that is no call: it is read, and answered with `?`.
+    /// One line that is no call: it is read, and answered with `unread`.
     pub fn unread(&mut self, n: u8) -> Pair {
         self.line(format!("line that is no call, n {n}"), repeated(n, "x\n"))
     }
