@@ -1,6 +1,7 @@
 // An event at one node by value, with the lent store: everything that decides. Nothing here touches the table; whoever
 // has it reads the node first and puts it back afterwards. Everything is proved, no function has a `requires`, and each
 // gives what one definition of the crate `outcome` says.
+use admission::first_verdict;
 use carrying::carry_out;
 use delivering::deliver_message;
 use engine::crash;
@@ -10,20 +11,18 @@ use engine::write;
 pub use looking::dropping;
 pub use looking::look;
 use message_drop::drop_message;
+pub use message_drop::drop_record;
 pub use outcome::Acted;
 pub use outcome::Dropping;
 pub use outcome::Seen;
 use outcome::refused;
-use protocol::Answer;
 use protocol::Event;
 use protocol::Node;
 use protocol::Refusal;
 use protocol::Step;
 use protocol::Verdict;
 ghost use mathlib.Core.Path.{_≡_};
-ghost use Rattle.protocol.specs.declared.Event.the-variants.{Drop};
-ghost use Rattle.protocol.specs.declared.Node as protocol;
-ghost use Rattle.outcome.specs.Act.{handedBack, atNode, onSound, firstVerdict, acted};
+ghost use Rattle.outcome.specs.Act.{handedBack, atNode, onSound, acted};
 
 // The decision of node `k`, where the group has this node.
 fn at_node(s: &mut [u8], node: Node, seen: Seen, k: u64, step: Step) -> Acted
@@ -52,22 +51,6 @@ fn on_sound(s: &mut [u8], node: Node, seen: Seen, event: Event) -> Acted
     }
 }
 
-// What refuses every event: the store has not its length (2), or store or table are not sound (3).
-fn first_verdict(s: &[u8], sound_table: bool, seen: Seen) -> Verdict
-    ensures { λ r. ⌜ r ≡ firstVerdict (now (s .entry)) «sound_table» seen ⌝ }
-{
-    if s.len() != store::LENGTH {
-        return Verdict::Refuse(Refusal::StoreLength);
-    }
-    if !seen.sound {
-        return Verdict::Refuse(Refusal::Unsound);
-    }
-    if !sound_table {
-        return Verdict::Refuse(Refusal::Unsound);
-    }
-    Verdict::Take
-}
-
 // An event at its node: `seen` is what is seen of store and event, and `sound_table` whether the table is sound.
 pub fn act(s: &mut [u8], node: Node, sound_table: bool, seen: Seen, event: Event) -> Acted
     ensures { λ r. ⌜ (r ≡ handedBack (acted event «sound_table» seen node (now (s .entry)))) × (now (s .exit) ≡ acted event «sound_table» seen node (now (s .entry)) .store) ⌝ }
@@ -75,15 +58,5 @@ pub fn act(s: &mut [u8], node: Node, sound_table: bool, seen: Seen, event: Event
     match first_verdict(s, sound_table, seen) {
         Verdict::Refuse(why) => refused(why, node),
         Verdict::Take => on_sound(s, node, seen, event),
-    }
-}
-
-// The Drop of the record of this number: the answer and the store are the same whatever the node is, so that none is copied.
-pub fn drop_record(s: &mut [u8], sound_table: bool, seen: Seen, number: u64) -> Answer
-    ensures { λ a. ⌜ ((node : protocol.Node) → (a ≡ acted (Drop number) «sound_table» seen node (now (s .entry)) .answer) × (now (s .exit) ≡ acted (Drop number) «sound_table» seen node (now (s .entry)) .store)) ⌝ }
-{
-    match first_verdict(s, sound_table, seen) {
-        Verdict::Refuse(why) => Answer::Refused(why),
-        Verdict::Take => drop_message(s, number),
     }
 }

@@ -1,12 +1,16 @@
-// Drop of the message in a record. No node is looked at. Everything is proved, the function has no `requires`, and it gives
+// Drop of the message in a record. No node is looked at. Everything is proved, no function has a `requires`, and each gives
 // what one definition of the crate `outcome` says.
+use admission::first_verdict;
+use outcome::Seen;
 use protocol::Answer;
 use protocol::Refusal;
+use protocol::Verdict;
 use record::Reading;
 ghost use mathlib.Core.Path.{_≡_};
 ghost use Rattle.store.specs.Sound.{messageAt};
+ghost use Rattle.protocol.specs.declared.Event.the-variants.{Drop};
 ghost use Rattle.protocol.specs.declared.Node.{Node};
-ghost use Rattle.outcome.specs.Act.{dropped};
+ghost use Rattle.outcome.specs.Act.{dropped, acted};
 
 // Drop of the message in record `r`: the answer and the store are the same whatever the node is.
 pub fn drop_message(s: &mut [u8], r: u64) -> Answer
@@ -17,4 +21,14 @@ pub fn drop_message(s: &mut [u8], r: u64) -> Answer
     };
     dropping::drop_message(s, envelope.addressee, r);
     Answer::Ok
+}
+
+// The Drop of the record of this number: the answer and the store are the same whatever the node is, so that none is copied.
+pub fn drop_record(s: &mut [u8], sound_table: bool, seen: Seen, number: u64) -> Answer
+    ensures { λ a. ⌜ ((node : Node) → (a ≡ acted (Drop number) «sound_table» seen node (now (s .entry)) .answer) × (now (s .exit) ≡ acted (Drop number) «sound_table» seen node (now (s .entry)) .store)) ⌝ }
+{
+    match first_verdict(s, sound_table, seen) {
+        Verdict::Refuse(why) => Answer::Refused(why),
+        Verdict::Take => drop_message(s, number),
+    }
 }

@@ -65,10 +65,10 @@ use Rattle.looking.proofs.dropping as drops
 use Rattle.looking.proofs.dropping.Symbol as drops-def
 use Rattle.looking.proofs.dropping.Symbol.{name as #drops}
 use Rattle.looking.proofs.dropping.Met as drops-thm
-use Rattle.act.proofs.drop_record as record-drop
-use Rattle.act.proofs.drop_record.Symbol as record-drop-def
-use Rattle.act.proofs.drop_record.Symbol.{name as #record-drop}
-use Rattle.act.proofs.drop_record.Met as record-drop-thm
+use Rattle.message_drop.proofs.drop_record as record-drop
+use Rattle.message_drop.proofs.drop_record.Symbol as record-drop-def
+use Rattle.message_drop.proofs.drop_record.Symbol.{name as #record-drop}
+use Rattle.message_drop.proofs.drop_record.Met as record-drop-thm
 use Rattle.place.proofs.act_at_place as place
 use Rattle.place.proofs.act_at_place.Symbol as place-def
 use Rattle.place.proofs.act_at_place.Symbol.{name as #place}

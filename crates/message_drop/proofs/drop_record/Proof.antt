@@ -1,12 +1,12 @@
--- `act::drop_record` meets its contract: an arm for each verdict.
+-- `message_drop::drop_record` meets its contract: an arm for each verdict.
 use Rattle.outcome.proofs.Laws.{acted-refused, acted-taken, sound-drop}
 use Rattle.outcome.specs.Act.{Outcome}
 use Rattle.protocol.specs.declared.Event.the-variants as event
 use denote.Ref.{now}
 use mathlib.Core.Path.{_≡_, refl, sym, ap, _∙_}
 use borrow.Author.Needs.{needs}
-use Rattle.act.proofs.drop_record.Statement.{statement}
-use Rattle.act.proofs.drop_record.Tie as tie
+use Rattle.message_drop.proofs.drop_record.Statement.{statement}
+use Rattle.message_drop.proofs.drop_record.Tie as tie
 
 first-verdict-requires : tie.Need-first-verdict-requires
 first-verdict-requires c κs = search needs

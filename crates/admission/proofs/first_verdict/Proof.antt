@@ -1,11 +1,11 @@
--- `act::first_verdict` meets its contract.
+-- `admission::first_verdict` meets its contract.
 use Rattle.outcome.proofs.Laws.{first-length, first-store, first-table, first-taken}
 use Rattle.store.specs.Lent.{right}
 use borrow.Author.Tests.{not-true, not-false}
 use denote.Ref.{now}
 use mathlib.Core.Path.{_≡_, sym}
-use Rattle.act.proofs.first_verdict.Statement.{statement}
-use Rattle.act.proofs.first_verdict.Tie as tie
+use Rattle.admission.proofs.first_verdict.Statement.{statement}
+use Rattle.admission.proofs.first_verdict.Tie as tie
 
 returns : tie.Need-returns
 returns c = let a = c .before .args in sym (first-length (now (a .s)) (a .sound-table) (a .seen) (c .if1 .taken))
