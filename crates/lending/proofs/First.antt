@@ -12,7 +12,7 @@ use Rattle.item.specs.Tests.{by-cond}
 use Rattle.protocol.specs.Operation.{Result, setUp, perform}
 use Rattle.protocol.specs.declared.Answer.{Answer}
 use Rattle.protocol.specs.declared.Node.{Node}
-use Rattle.lending.specs.declared.Asked.{Asked}
+use Rattle.script.specs.declared.Asked.{Asked}
 use Rattle.lending.specs.Lending.{firstNodes, operated, operatedFirst, putFirst}
 
 pub first-few : (n held : ℕ) → firstNodes n held ≤ held

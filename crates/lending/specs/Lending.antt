@@ -6,7 +6,7 @@ use lib.Dec.{ltb}
 use lib.ListN.{take, drop}
 use Rattle.protocol.specs.Operation.{Result, setUp, perform}
 use Rattle.protocol.specs.declared.Node.{Node}
-use Rattle.lending.specs.declared.Asked.{Asked}
+use Rattle.script.specs.declared.Asked.{Asked}
 
 -- how many of the nodes held are the table of a group of n
 unfoldable pub firstNodes : ℕ → ℕ → ℕ

@@ -1,18 +1,10 @@
 // An operation of the group as a line of a drill asks for it, over nodes that are lent, of which the first ones are the
 // group's table. Everything is proved, and no public function has a `requires`.
 use protocol::Answer;
-use protocol::Event;
 use protocol::Node;
+use script::Asked;
 ghost use mathlib.Core.Path.{_≡_};
 ghost use Rattle.lending.specs.Lending.{firstNodes, operated, operatedFirst};
-
-// What a line asks of the group: the set-up of a group of n, or an event of the group of n that stands.
-pub struct Asked {
-    pub n: u64,
-    // Whether a group begins: it is a set-up, and the event is not looked at.
-    pub begins: bool,
-    pub event: Event,
-}
 
 // What is asked, over the group's table.
 fn operate(table: &mut [Node], store: &mut [u8], asked: Asked) -> Answer

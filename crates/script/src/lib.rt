@@ -17,6 +17,14 @@ pub enum Line {
     Unread,
 }
 
+// What a line asks of the group: the set-up of a group of n, or an event of the group of n that stands.
+pub struct Asked {
+    pub n: u64,
+    // Whether a group begins: it is a set-up, and the event is not looked at.
+    pub begins: bool,
+    pub event: Event,
+}
+
 // What some bytes are as a tag.
 pub enum TagField {
     Is(Tag),

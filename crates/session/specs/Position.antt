@@ -7,7 +7,7 @@ use mathlib.Core.List.{List, _++_}
 use lib.ListN.{length, take, drop}
 use Rattle.answers.specs.Output.{outputLine, lineRoom}
 use Rattle.answers.specs.declared.Reply.the-variants as reply
-use Rattle.lending.specs.declared.Asked.{Asked}
+use Rattle.script.specs.declared.Asked.{Asked}
 use Rattle.lending.specs.Lending.{operatedFirst}
 use Rattle.pending.specs.Pending.{noneYet}
 use Rattle.pending.specs.declared.Pending.{Pending}

@@ -3,12 +3,12 @@
 use answers::LINE_ROOM;
 use answers::Reply;
 use answers::print_line;
-use lending::Asked;
 use pending::Pending;
 use pending::read_pending;
 use progress::Progress;
 use protocol::Answer;
 use protocol::Event;
+use script::Asked;
 use script::Line;
 ghost use Prim.Native.Nat.{ℕ, _+_};
 ghost use mathlib.Core.Path.{_≡_};

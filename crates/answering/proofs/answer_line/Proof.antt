@@ -43,10 +43,10 @@ use Rattle.protocol.specs.declared.Answer.{Answer}
 use Rattle.protocol.proofs.Answer as An
 use Rattle.protocol.proofs.Answer.Laws as An′
 use Rattle.protocol.proofs.Node as T
-use Rattle.lending.specs.declared.Asked.{Asked}
+use Rattle.script.specs.declared.Asked.{Asked}
 use Rattle.lending.specs.Lending.{operatedFirst}
-use Rattle.lending.proofs.Asked as Q
-use Rattle.lending.proofs.Asked.Laws as Q′
+use Rattle.script.proofs.Asked as Q
+use Rattle.script.proofs.Asked.Laws as Q′
 use Rattle.lending.proofs.First.{Gives}
 use Rattle.session.specs.declared.Position.{Position}
 use Rattle.session.specs.Steps.{Answers}

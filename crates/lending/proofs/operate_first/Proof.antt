@@ -53,10 +53,10 @@ use Rattle.protocol.proofs.Answer as An
 use Rattle.protocol.proofs.Answer.Laws as An′
 use Rattle.protocol.proofs.Node as T
 use Rattle.protocol.proofs.Node.Laws as T′
-use Rattle.lending.specs.declared.Asked.{Asked}
+use Rattle.script.specs.declared.Asked.{Asked}
 use Rattle.lending.specs.Lending.{firstNodes, operated, operatedFirst}
-use Rattle.lending.proofs.Asked as Q
-use Rattle.lending.proofs.Asked.Laws as Q′
+use Rattle.script.proofs.Asked as Q
+use Rattle.script.proofs.Asked.Laws as Q′
 use Rattle.table.proofs.Size.{nodeSize}
 use Rattle.table.proofs.Walk.{ty-of}
 use Rattle.lending.proofs.First.{Gives, first-few, first-gives}
