@@ -3,7 +3,7 @@ use Prim.Native.Nat.{ℕ}
 use mathlib.Core.Path.{_≡_, sym, subst}
 use mathlib.Core.Bool.{true}
 use mathlib.Core.List.{List}
-use Rattle.lending.specs.Lending.{operatedFirst}
+use Rattle.script.specs.Operated.{operatedFirst}
 use Rattle.progress.specs.declared.Progress.{Progress}
 use Rattle.protocol.specs.declared.Answer.{Answer}
 use Rattle.protocol.specs.declared.Node.{Node}

@@ -13,7 +13,8 @@ use Rattle.protocol.specs.Operation.{Result, setUp, perform}
 use Rattle.protocol.specs.declared.Answer.{Answer}
 use Rattle.protocol.specs.declared.Node.{Node}
 use Rattle.script.specs.declared.Asked.{Asked}
-use Rattle.lending.specs.Lending.{firstNodes, operated, operatedFirst, putFirst}
+use Rattle.script.specs.Operated.{operated, operatedFirst, putFirst}
+use Rattle.lending.specs.Lending.{firstNodes}
 
 pub first-few : (n held : ℕ) → firstNodes n held ≤ held
 unfolding firstNodes

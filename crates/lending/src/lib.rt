@@ -4,7 +4,8 @@ use protocol::Answer;
 use protocol::Node;
 use script::Asked;
 ghost use mathlib.Core.Path.{_≡_};
-ghost use Rattle.lending.specs.Lending.{firstNodes, operated, operatedFirst};
+ghost use Rattle.script.specs.Operated.{operated, operatedFirst};
+ghost use Rattle.lending.specs.Lending.{firstNodes};
 
 // What is asked, over the group's table.
 fn operate(table: &mut [Node], store: &mut [u8], asked: Asked) -> Answer

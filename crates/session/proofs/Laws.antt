@@ -12,7 +12,7 @@ use Rattle.answers.specs.declared.Reply.the-variants as reply
 use Rattle.decimal.specs.Bytes.{lineFeed}
 use Rattle.decimal.specs.Place.{placed, placeAfter}
 use Rattle.script.specs.declared.Asked.{Asked}
-use Rattle.lending.specs.Lending.{operated, operatedFirst, putFirst}
+use Rattle.script.specs.Operated.{operated, operatedFirst, putFirst}
 use Rattle.pending.specs.Pending.{noneYet, pushed, pendingLine}
 use Rattle.pending.specs.declared.Pending.{Pending}
 use Rattle.progress.specs.Feeding.{pendingOutput, progressOutput, Counted}

@@ -8,7 +8,7 @@ use lib.ListN.{length, take, drop}
 use Rattle.answers.specs.Output.{outputLine, lineRoom}
 use Rattle.answers.specs.declared.Reply.the-variants as reply
 use Rattle.script.specs.declared.Asked.{Asked}
-use Rattle.lending.specs.Lending.{operatedFirst}
+use Rattle.script.specs.Operated.{operatedFirst}
 use Rattle.pending.specs.Pending.{noneYet}
 use Rattle.pending.specs.declared.Pending.{Pending}
 use Rattle.progress.specs.Feeding.{pendingOutput, progressOutput, Counted}

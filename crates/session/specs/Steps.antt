@@ -4,7 +4,7 @@ use mathlib.Core.Path.{_≡_}
 use mathlib.Core.Bool.{true}
 use mathlib.Core.List.{List}
 use lib.ListN.{length}
-use Rattle.lending.specs.Lending.{operatedFirst}
+use Rattle.script.specs.Operated.{operatedFirst}
 use Rattle.progress.specs.declared.Progress.{Progress}
 use Rattle.protocol.specs.declared.Answer.{Answer}
 use Rattle.protocol.specs.declared.Node.{Node}

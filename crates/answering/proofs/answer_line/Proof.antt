@@ -44,7 +44,7 @@ use Rattle.protocol.proofs.Answer as An
 use Rattle.protocol.proofs.Answer.Laws as An′
 use Rattle.protocol.proofs.Node as T
 use Rattle.script.specs.declared.Asked.{Asked}
-use Rattle.lending.specs.Lending.{operatedFirst}
+use Rattle.script.specs.Operated.{operatedFirst}
 use Rattle.script.proofs.Asked as Q
 use Rattle.script.proofs.Asked.Laws as Q′
 use Rattle.lending.proofs.First.{Gives}
