@@ -6,7 +6,7 @@ use mathlib.Core.Bool.{Bool, true, false, cond}
 use mathlib.Core.List.{List, [], _∷_, _++_, append-nil}
 use lib.Dec.{eqb}
 use mathlib.Core.Logic.{⊎-elim}
-use borrow.Rule.Slice.PartMut.{putMid, postOf}
+use borrow.Rule.Slice.PartMut.{midOf, putMid, postOf}
 use lib.ListN.{length, take, drop, replicate, length-append, drop-of-length-le}
 use lib.Seq.{take-at, take-take, take-append-le, take-append-add, length-take-le}
 use borrow.Author.Tests.{eq-eqb}
@@ -52,7 +52,7 @@ output-length (b ∷ bs) count line drill store =
     by-test true e ended longer = rw (e, length-append) (omega (arith, line-length (suc count) (lineDone (lineOf line) drill store .turn .reply), ended))
     by-test false e ended longer = rw e longer
 
-pub drill-length : (script : List ℕ) → length (drillOutput script) ≤ lineRoom * (lineFeeds script + 1)
+drill-length : (script : List ℕ) → length (drillOutput script) ≤ lineRoom * (lineFeeds script + 1)
 unfolding drillOutput
 drill-length script = output-length script 0 [] _ _
 
@@ -87,7 +87,7 @@ module _ (script store out : List ℕ) (start last : Progress) (zeros : List ℕ
   printed-most = let k = rw s at (t .counted) in omega (arith, k .lines, k .room)
 
   -- where a line had no room left
-  pub none-left : length out < at + lineRoom → ScriptRun script out notAll
+  none-left : length out < at + lineRoom → ScriptRun script out notAll
   none-left h =
       record {
         printed = λ n. absurd (n refl);
@@ -97,29 +97,29 @@ module _ (script store out : List ℕ) (start last : Progress) (zeros : List ℕ
       }
 
   -- the piece ended before the script only for want of room: there is a count for each of its bytes
-  pub stopped : next < length script → length script < 18446744073709551616 → length out < at + lineRoom
+  stopped : next < length script → length script < 18446744073709551616 → length out < at + lineRoom
   unfolding atStart noneYet
   stopped h fits =
       let k = rw s at (t .counted) in
       ⊎-elim (λ e. absurd (omega (arith, e, h))) (⊎-elim (λ e. e) (λ e. absurd (omega (arith, e, k .bytes, h, fits)))) (t .ended)
 
   -- the script was taken whole: what is left to print is the unended last line
-  pub whole : length script ≤ next → drillOutput script ≡ take at out ++ lastOutput (last .count) (last .pending .len)
+  whole : length script ≤ next → drillOutput script ≡ take at out ++ lastOutput (last .count) (last .pending .len)
   unfolding progressOutput pendingOutput
   whole h = all-output ∙ ap (λ (l : List ℕ). take at out ++ progressOutput last store l) (drop-of-length-le script h)
 
-  pub whole-ended : length script ≤ next → last .pending .len ≡ 0 → drillOutput script ≡ take at out
+  whole-ended : length script ≤ next → last .pending .len ≡ 0 → drillOutput script ≡ take at out
   unfolding lastOutput
   whole-ended h e = whole h ∙ rw (eq-eqb (last .pending .len) 0 e) (append-nil (take at out))
 
   -- and there is a count for it
-  pub count-left : length script < 18446744073709551616 → (last .pending .len ≡ 0 → ⊥) → last .count + 1 < 18446744073709551616
+  count-left : length script < 18446744073709551616 → (last .pending .len ≡ 0 → ⊥) → last .count + 1 < 18446744073709551616
   unfolding atStart noneYet
   count-left fits n = let k = rw s at (t .counted) in omega (arith, k .bytes, n, fits, t .within .0)
 
 -- ---- all was printed
 
-pub all-printed : (script out : List ℕ) (r : ℕ) {len : ℕ} → r ≤ length out → length out ≡ len → len < 18446744073709551616 → drillOutput script ≡ take r out → ScriptRun script out r
+all-printed : (script out : List ℕ) (r : ℕ) {len : ℕ} → r ≤ length out → length out ≡ len → len < 18446744073709551616 → drillOutput script ≡ take r out → ScriptRun script out r
 all-printed script out r h same fits e =
     let l : length (drillOutput script) ≡ r = ap length e ∙ length-take-le r out h in
     record {
@@ -130,9 +130,41 @@ all-printed script out r h same fits e =
     }
 
 -- text that was printed after what stood before
-pub printed-after : (out part : List ℕ) (at k : ℕ) → at ≤ length out → k ≤ length part → take (at + k) (putMid at (length out - at) out part) ≡ take at out ++ take k part
+printed-after : (out part : List ℕ) (at k : ℕ) → at ≤ length out → k ≤ length part → take (at + k) (putMid at (length out - at) out part) ≡ take at out ++ take k part
 printed-after out part at k h m =
     let rest : List ℕ = postOf at (length out - at) out in
     ap (λ (n : ℕ). take (n + k) (take at out ++ (part ++ rest))) (sym (length-take-le at out h))
     ∙ take-append-add (take at out) (part ++ rest) k
     ∙ ap (λ (l : List ℕ). take at out ++ l) (take-append-le k part rest m)
+
+-- ---- a run, by where it ends
+
+module _ (script store out : List ℕ) (start last : Progress) (zeros : List ℕ) (next at : ℕ)
+    (t : Taken script start zeros next at out last store) (s : start ≡ atStart) (z : zeros ≡ replicate (recordCount * recordSize) 0) where
+  -- before the script's end
+  pub cut-short : next < length script → length script < 18446744073709551616 → ScriptRun script out notAll
+  cut-short h fits = none-left script store out start last zeros next at t s z (stopped script store out start last zeros next at t s z h fits)
+
+  -- before an unended last line
+  pub no-room : length out - at < lineRoom → ScriptRun script out notAll
+  no-room h = none-left script store out start last zeros next at t s z (omega (arith, h, t .within .1))
+
+  -- after the last line feed
+  pub ended : {len : ℕ} → length out ≡ len → len < 18446744073709551616 → length script ≤ next → last .pending .len ≡ 0 → ScriptRun script out at
+  ended same fits h e = all-printed script out at (t .within .1) same fits (whole-ended script store out start last zeros next at t s z h e)
+
+  -- after an unended last line, that stands in the first r bytes of what stood after the others
+  pub unended : (part : List ℕ) (r : ℕ) {len : ℕ} → length out ≡ len → len < 18446744073709551616 → length script < 18446744073709551616
+      → length script ≤ next → (last .pending .len ≡ 0 → ⊥) → lineRoom ≤ length out - at
+      → length (midOf at (length out - at) out) ≡ length out - at
+      → length part ≡ length (midOf at (length out - at) out)
+      → length (putMid at (length out - at) out part) ≡ length out
+      → r ≤ length part
+      → (last .count + 1 < 18446744073709551616 → lineRoom ≤ length (midOf at (length out - at) out) → take r part ≡ lastOutput (last .count) (last .pending .len))
+      → ScriptRun script (putMid at (length out - at) out part) (at + r)
+  unended part r same fits few h n room mid held put m text =
+      let line = text (count-left script store out start last zeros next at t s z few n) (omega (arith, mid, room)) in
+      all-printed script (putMid at (length out - at) out part) (at + r) (omega (arith, mid, held, put, m, t .within .1)) (put ∙ same) fits
+      (whole script store out start last zeros next at t s z h
+      ∙ ap (λ (l : List ℕ). take at out ++ l) (sym line)
+      ∙ sym (printed-after out part at r (t .within .1) m))
