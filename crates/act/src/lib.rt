@@ -13,7 +13,6 @@ pub use looking::look;
 use message_drop::drop_message;
 pub use message_drop::drop_record;
 pub use outcome::Acted;
-pub use outcome::Dropping;
 pub use outcome::Seen;
 use outcome::refused;
 use protocol::Event;

@@ -6,7 +6,7 @@ use protocol::Verdict;
 ghost use mathlib.Core.Path.{_≡_};
 ghost use Rattle.outcome.specs.Act.{firstVerdict};
 
-// The store has not its length (2), or store or table are not sound (3).
+// Refused are an event on a store that has not its length (2), and one on a store or table that is not sound (3).
 pub fn first_verdict(s: &[u8], sound_table: bool, seen: Seen) -> Verdict
     ensures { λ r. ⌜ r ≡ firstVerdict (now (s .entry)) «sound_table» seen ⌝ }
 {

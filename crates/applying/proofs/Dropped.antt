@@ -5,7 +5,6 @@ use mathlib.Core.Bool.{Bool, true}
 use mathlib.Core.List.{List}
 use lib.ListN.{set}
 use lib.Seq.{set-getD}
-use Rattle.protocol.specs.Operation.{Result}
 use Rattle.protocol.specs.Table.{nodeAt, noNode}
 use Rattle.protocol.specs.declared.Answer.{Answer}
 use Rattle.protocol.specs.declared.Event.{Event}
@@ -16,18 +15,21 @@ use Rattle.outcome.specs.declared.Seen.{Seen}
 use Rattle.outcome.specs.Act.{acted, droppingOf}
 use Rattle.outcome.proofs.Laws.{drop-node, dropping-is}
 use Rattle.place.specs.AtPlace.{atPlace}
+use Rattle.table.proofs.Given.{Gives}
 
 -- what `drop_record` says of a record: its answer and the store, whatever the node is
 abbrev pub Drops : ℕ → Bool → Seen → List ℕ → Answer → List ℕ → Type 0
 Drops number sound seen store r after = (node : Node) → (r ≡ acted (event.Drop number) sound seen node store .answer) × (after ≡ acted (event.Drop number) sound seen node store .store)
 
-abbrev pub Gives : Result → Answer → List Node → List ℕ → Type 0
-Gives o r table store = (r ≡ o .answer) × ((table ≡ o .table) × (store ≡ o .store))
+-- a node that is put back as it was changes nothing
+pub same-node : (table : List Node) (k : ℕ) → set table k (nodeAt table k) ≡ table
+unfolding nodeAt
+same-node table k = set-getD table k noNode
 
 module _ (sound : Bool) (seen : Seen) (table : List Node) (store : List ℕ) where
   same-table : (number : ℕ) → table ≡ atPlace (event.Drop number) sound seen table store .table
-  unfolding atPlace nodeAt
-  same-table number = sym (ap (set table (seen .place)) (drop-node number sound seen (nodeAt table (seen .place)) store) ∙ set-getD table (seen .place) noNode)
+  unfolding atPlace
+  same-table number = sym (ap (set table (seen .place)) (drop-node number sound seen (nodeAt table (seen .place)) store) ∙ same-node table (seen .place))
 
   drop-gives : (number : ℕ) (r : Answer) (after : List ℕ) → Drops number sound seen store r after → Gives (atPlace (event.Drop number) sound seen table store) r table after
   unfolding atPlace

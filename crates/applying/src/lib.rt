@@ -7,7 +7,8 @@ use protocol::Node;
 ghost use mathlib.Core.Path.{_≡_};
 ghost use Rattle.place.specs.AtPlace.{atPlace};
 
-// `seen` is what is seen of store and event, and `sound` whether the table is sound.
+// The event at its place in the table, or, where it is a Drop, the drop of its record. `seen` is what is seen of store and
+// event, and `sound` whether the table is sound.
 pub fn apply(table: &mut [Node], store: &mut [u8], sound: bool, seen: Seen, event: Event) -> Answer
     ensures { λ r. ⌜ (r ≡ atPlace event sound seen (now (table .entry)) (now (store .entry)) .answer) × ((now (table .exit) ≡ atPlace event sound seen (now (table .entry)) (now (store .entry)) .table) × (now (store .exit) ≡ atPlace event sound seen (now (table .entry)) (now (store .entry)) .store)) ⌝ }
 {

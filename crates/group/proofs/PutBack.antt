@@ -5,7 +5,6 @@ use mathlib.Core.Bool.{Bool, true, false, cond, _&&_}
 use mathlib.Core.List.{List}
 use lib.Dec.{ltb}
 use lib.ListN.{set}
-use lib.Seq.{set-getD}
 use Rattle.message.specs.declared.Outgoing.{Outgoing}
 use Rattle.record.specs.declared.Reading.{Reading}
 use Rattle.record.specs.declared.Reading.the-variants.{Found, Fault}
@@ -17,7 +16,7 @@ use Rattle.store.specs.Sound.{soundRecords, freeCount, messageIn, messageAt, su
 use Rattle.protocol.specs.Operation as whole
 use Rattle.protocol.specs.Operation.{Result, isRefused, rowItems}
 use Rattle.protocol.specs.Outgoing.{outgoing}
-use Rattle.protocol.specs.Table.{nodeAt, soundTable, noNode}
+use Rattle.protocol.specs.Table.{nodeAt, soundTable}
 use Rattle.protocol.specs.Deliver.{deliverStep}
 use Rattle.protocol.specs.declared.Answer.{Answer}
 use Rattle.protocol.specs.declared.Answer.the-variants as answer
@@ -33,11 +32,7 @@ use Rattle.outcome.specs.Act.{Outcome, addresseeOf, placeOf, lookAt}
 use Rattle.outcome.specs.declared.Seen.{Seen}
 use Rattle.outcome.proofs.Laws.{first-table, first-taken, acted-refused, acted-taken}
 use Rattle.place.specs.AtPlace.{putBack, atPlace}
-
--- a node that is put back as it was changes nothing
-same-node : (table : List Node) (k : ℕ) → set table k (nodeAt table k) ≡ table
-unfolding nodeAt
-same-node table k = set-getD table k noNode
+use Rattle.applying.proofs.Dropped.{same-node}
 
 back-cond : (table : List Node) (k : ℕ) (c : Bool) (a b : Outcome) → putBack table k (cond c a b) ≡ cond c (putBack table k a) (putBack table k b)
 back-cond table k true a b = refl

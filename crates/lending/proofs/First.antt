@@ -9,9 +9,10 @@ use lib.ListN.{length, take, drop, drop-of-length-le}
 use lib.Seq.{take-all}
 use borrow.Author.Tests.{ltb-false, ltb-true}
 use Rattle.item.specs.Tests.{by-cond}
-use Rattle.protocol.specs.Operation.{Result, setUp, perform}
+use Rattle.protocol.specs.Operation.{setUp, perform}
 use Rattle.protocol.specs.declared.Answer.{Answer}
 use Rattle.protocol.specs.declared.Node.{Node}
+use Rattle.table.proofs.Given.{Gives}
 use Rattle.script.specs.declared.Asked.{Asked}
 use Rattle.script.specs.Operated.{operated, operatedFirst, putFirst}
 use Rattle.lending.specs.Lending.{firstNodes}
@@ -31,10 +32,6 @@ unfolding firstNodes
 first-drop n nodes =
     by-cond (λ k. drop k nodes ≡ drop n nodes) (ltb n (length nodes)) n (length nodes) (λ e. refl)
     (λ e. drop-of-length-le nodes {i = length nodes} (omega arith) ∙ sym (drop-of-length-le nodes {i = n} (omega (arith, ltb-false n (length nodes) e))))
-
--- an answer, nodes and a store are those of a result
-abbrev pub Gives : Result → Answer → List Node → List ℕ → Type 0
-Gives result r nodes store = (r ≡ result .answer) × ((nodes ≡ result .table) × (store ≡ result .store))
 
 pub begins-gives : (asked : Asked) (table : List Node) (store : List ℕ) (r : Answer) (l : List Node) (m : List ℕ)
     → asked .begins ≡ true → Gives (setUp (asked .n) table store) r l m → Gives (operated asked table store) r l m

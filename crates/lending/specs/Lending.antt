@@ -1,4 +1,4 @@
--- The operation that a line asks for, where nodes are held of which the first ones are the group's table.
+-- The nodes held that are the group's table.
 use Prim.Native.Nat.{ℕ}
 use mathlib.Core.Bool.{cond}
 use lib.Dec.{ltb}

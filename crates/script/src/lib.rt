@@ -1,4 +1,4 @@
-// The drill's script: its input lines read. Everything is proved, no public function has a `requires`, and each gives what
+// The drill's script: its input lines read, and what a line asks of the group. Everything is proved, no public function has a `requires`, and each gives what
 // one definition of specs/ says.
 use decimal::Number;
 use decimal::number_in;

@@ -43,6 +43,7 @@ sizeThen asked before answer = cond (asked .begins) (sizeAfter (asked .n) before
 unfoldable pub restingAt : ℕ → ℕ → ℕ → Pending → ℕ → Position
 restingAt next at count pending n = record { next = next; at = at; count = count; pending = pending; n = n; asks = false; asked = askedBy n Unread }
 
+-- the same place, where what was asked is answered
 unfoldable pub nothingAsked : Position → Position
 nothingAsked p = restingAt (p .next) (p .at) (p .count) (p .pending) (p .n)
 

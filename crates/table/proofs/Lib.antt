@@ -3,3 +3,4 @@ pub mod Offsets
 pub mod Shared
 pub mod Size
 pub mod Walk
+pub mod Given

@@ -64,6 +64,26 @@ first-of-replicate zero k a h = refl
 first-of-replicate (suc n) zero a h = absurd (omega arith)
 first-of-replicate (suc n) (suc k) a h = ap (λ (l : List ℕ). a ∷ l) (first-of-replicate n k a (omega arith))
 
+-- ---- all was printed
+
+all-printed : (script out : List ℕ) (r : ℕ) {len : ℕ} → r ≤ length out → length out ≡ len → len < 18446744073709551616 → drillOutput script ≡ take r out → ScriptRun script out r
+all-printed script out r h same fits e =
+    let l : length (drillOutput script) ≡ r = ap length e ∙ length-take-le r out h in
+    record {
+      printed = λ _. sym e;
+      within = λ _. h;
+      unprinted = λ n. record { at = r; within = h; begun = sym (ap (take r) e ∙ take-take r r out (omega arith)); full = omega (arith, n, h, fits) };
+      enough = λ room n. omega (arith, l, room, n, fits, drill-length script);
+    }
+
+-- text that was printed after what stood before
+printed-after : (out part : List ℕ) (at k : ℕ) → at ≤ length out → k ≤ length part → take (at + k) (putMid at (length out - at) out part) ≡ take at out ++ take k part
+printed-after out part at k h m =
+    let rest : List ℕ = postOf at (length out - at) out in
+    ap (λ (n : ℕ). take (n + k) (take at out ++ (part ++ rest))) (sym (length-take-le at out h))
+    ∙ take-append-add (take at out) (part ++ rest) k
+    ∙ ap (λ (l : List ℕ). take at out ++ l) (take-append-le k part rest m)
+
 -- ---- the script as one piece
 
 module _ (script store out : List ℕ) (start last : Progress) (zeros : List ℕ) (next at : ℕ)
@@ -117,41 +137,19 @@ module _ (script store out : List ℕ) (start last : Progress) (zeros : List ℕ
   unfolding atStart noneYet
   count-left fits n = let k = rw s at (t .counted) in omega (arith, k .bytes, n, fits, t .within .0)
 
--- ---- all was printed
+  -- ---- a run, by where it ends
 
-all-printed : (script out : List ℕ) (r : ℕ) {len : ℕ} → r ≤ length out → length out ≡ len → len < 18446744073709551616 → drillOutput script ≡ take r out → ScriptRun script out r
-all-printed script out r h same fits e =
-    let l : length (drillOutput script) ≡ r = ap length e ∙ length-take-le r out h in
-    record {
-      printed = λ _. sym e;
-      within = λ _. h;
-      unprinted = λ n. record { at = r; within = h; begun = sym (ap (take r) e ∙ take-take r r out (omega arith)); full = omega (arith, n, h, fits) };
-      enough = λ room n. omega (arith, l, room, n, fits, drill-length script);
-    }
-
--- text that was printed after what stood before
-printed-after : (out part : List ℕ) (at k : ℕ) → at ≤ length out → k ≤ length part → take (at + k) (putMid at (length out - at) out part) ≡ take at out ++ take k part
-printed-after out part at k h m =
-    let rest : List ℕ = postOf at (length out - at) out in
-    ap (λ (n : ℕ). take (n + k) (take at out ++ (part ++ rest))) (sym (length-take-le at out h))
-    ∙ take-append-add (take at out) (part ++ rest) k
-    ∙ ap (λ (l : List ℕ). take at out ++ l) (take-append-le k part rest m)
-
--- ---- a run, by where it ends
-
-module _ (script store out : List ℕ) (start last : Progress) (zeros : List ℕ) (next at : ℕ)
-    (t : Taken script start zeros next at out last store) (s : start ≡ atStart) (z : zeros ≡ replicate (recordCount * recordSize) 0) where
   -- before the script's end
   pub cut-short : next < length script → length script < 18446744073709551616 → ScriptRun script out notAll
-  cut-short h fits = none-left script store out start last zeros next at t s z (stopped script store out start last zeros next at t s z h fits)
+  cut-short h fits = none-left (stopped h fits)
 
   -- before an unended last line
   pub no-room : length out - at < lineRoom → ScriptRun script out notAll
-  no-room h = none-left script store out start last zeros next at t s z (omega (arith, h, t .within .1))
+  no-room h = none-left (omega (arith, h, t .within .1))
 
   -- after the last line feed
   pub ended : {len : ℕ} → length out ≡ len → len < 18446744073709551616 → length script ≤ next → last .pending .len ≡ 0 → ScriptRun script out at
-  ended same fits h e = all-printed script out at (t .within .1) same fits (whole-ended script store out start last zeros next at t s z h e)
+  ended same fits h e = all-printed script out at (t .within .1) same fits (whole-ended h e)
 
   -- after an unended last line, that stands in the first r bytes of what stood after the others
   pub unended : (part : List ℕ) (r : ℕ) {len : ℕ} → length out ≡ len → len < 18446744073709551616 → length script < 18446744073709551616
@@ -163,8 +161,8 @@ module _ (script store out : List ℕ) (start last : Progress) (zeros : List ℕ
       → (last .count + 1 < 18446744073709551616 → lineRoom ≤ length (midOf at (length out - at) out) → take r part ≡ lastOutput (last .count) (last .pending .len))
       → ScriptRun script (putMid at (length out - at) out part) (at + r)
   unended part r same fits few h n room mid held put m text =
-      let line = text (count-left script store out start last zeros next at t s z few n) (omega (arith, mid, room)) in
+      let line = text (count-left few n) (omega (arith, mid, room)) in
       all-printed script (putMid at (length out - at) out part) (at + r) (omega (arith, mid, held, put, m, t .within .1)) (put ∙ same) fits
-      (whole script store out start last zeros next at t s z h
+      (whole h
       ∙ ap (λ (l : List ℕ). take at out ++ l) (sym line)
       ∙ sym (printed-after out part at r (t .within .1) m))

@@ -47,7 +47,7 @@ use Rattle.script.specs.declared.Asked.{Asked}
 use Rattle.script.specs.Operated.{operatedFirst}
 use Rattle.script.proofs.Asked as Q
 use Rattle.script.proofs.Asked.Laws as Q′
-use Rattle.lending.proofs.First.{Gives}
+use Rattle.table.proofs.Given.{Gives}
 use Rattle.session.specs.declared.Position.{Position}
 use Rattle.session.specs.Steps.{Answers}
 use Rattle.session.proofs.Position as P

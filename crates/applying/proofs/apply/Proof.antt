@@ -51,7 +51,8 @@ use Rattle.outcome.specs.Act.{droppingOf}
 use Rattle.place.specs.AtPlace.{atPlace}
 use Rattle.table.proofs.Offsets.{numberAt}
 use Rattle.table.proofs.Walk.{env-of, holds}
-use Rattle.applying.proofs.Dropped.{Drops, Gives, dropped-gives}
+use Rattle.table.proofs.Given.{Gives}
+use Rattle.applying.proofs.Dropped.{Drops, dropped-gives}
 use Rattle.protocol.proofs.Event as K
 use Rattle.protocol.proofs.Event.Laws as K′
 use Rattle.protocol.proofs.Answer as An

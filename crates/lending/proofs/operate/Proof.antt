@@ -59,7 +59,8 @@ use Rattle.lending.specs.Lending.{firstNodes}
 use Rattle.script.proofs.Asked as Q
 use Rattle.script.proofs.Asked.Laws as Q′
 use Rattle.table.proofs.Walk.{env-of, holds, fails}
-use Rattle.lending.proofs.First.{Gives, begins-gives, event-gives}
+use Rattle.table.proofs.Given.{Gives}
+use Rattle.lending.proofs.First.{begins-gives, event-gives}
 use Rattle.lending.proofs.Walk.{beginsAt, eventAt}
 use Rattle.group_setup.proofs.set_up as sets
 use Rattle.group_setup.proofs.set_up.Symbol as sets-def

@@ -60,7 +60,8 @@ use Rattle.script.proofs.Asked as Q
 use Rattle.script.proofs.Asked.Laws as Q′
 use Rattle.table.proofs.Size.{nodeSize}
 use Rattle.table.proofs.Walk.{ty-of}
-use Rattle.lending.proofs.First.{Gives, first-few, first-gives}
+use Rattle.table.proofs.Given.{Gives}
+use Rattle.lending.proofs.First.{first-few, first-gives}
 use Rattle.lending.proofs.Part.{LentPart, lends-part, part-back}
 use Rattle.lending.proofs.first_nodes as firsts
 use Rattle.lending.proofs.first_nodes.Symbol as firsts-def
