@@ -3,14 +3,13 @@
 // gives what one definition of the crate `outcome` says.
 use admission::first_verdict;
 use carrying::carry_out;
-use delivering::deliver_message;
+use delivering::deliver_record;
 use engine::crash;
 use engine::retry;
 use engine::start;
 use engine::write;
 pub use looking::dropping;
 pub use looking::look;
-use message_drop::drop_message;
 pub use message_drop::drop_record;
 pub use outcome::Acted;
 pub use outcome::Seen;
@@ -21,7 +20,7 @@ use protocol::Refusal;
 use protocol::Step;
 use protocol::Verdict;
 ghost use mathlib.Core.Path.{_≡_};
-ghost use Rattle.outcome.specs.Act.{handedBack, atNode, onSound, acted};
+ghost use Rattle.outcome.specs.Act.{handedBack, atNode, firstVerdict, admitted, acted};
 
 // The decision of node `k`, where the group has this node.
 fn at_node(s: &mut [u8], node: Node, seen: Seen, k: u64, step: Step) -> Acted
@@ -33,20 +32,13 @@ fn at_node(s: &mut [u8], node: Node, seen: Seen, k: u64, step: Step) -> Acted
     carry_out(s, node, seen.free, k as usize, step)
 }
 
-// An event on a sound table and store.
-fn on_sound(s: &mut [u8], node: Node, seen: Seen, event: Event) -> Acted
-    ensures { λ r. ⌜ (r ≡ handedBack (onSound event node (now (s .entry)) seen)) × (now (s .exit) ≡ onSound event node (now (s .entry)) seen .store) ⌝ }
+// The decision of node `k`, unless the event is refused before.
+fn decided_at(s: &mut [u8], node: Node, sound_table: bool, seen: Seen, k: u64, step: Step) -> Acted
+    ensures { λ r. ⌜ (r ≡ handedBack (admitted (firstVerdict (now (s .entry)) «sound_table» seen) node (now (s .entry)) (atNode node (now (s .entry)) seen k step))) × (now (s .exit) ≡ admitted (firstVerdict (now (s .entry)) «sound_table» seen) node (now (s .entry)) (atNode node (now (s .entry)) seen k step) .store) ⌝ }
 {
-    match event {
-        Event::Write { node: k, tag } => at_node(s, node, seen, k, write(node, tag)),
-        Event::Retry { node: k } => at_node(s, node, seen, k, retry(node)),
-        Event::Crash { node: k } => at_node(s, node, seen, k, crash(node)),
-        Event::Start { node: k } => at_node(s, node, seen, k, start(node)),
-        Event::Drop { record } => Acted {
-            answer: drop_message(s, record),
-            node: node,
-        },
-        Event::Deliver { record } => deliver_message(s, node, seen.free, record),
+    match first_verdict(s, sound_table, seen) {
+        Verdict::Refuse(why) => refused(why, node),
+        Verdict::Take => at_node(s, node, seen, k, step),
     }
 }
 
@@ -54,8 +46,22 @@ fn on_sound(s: &mut [u8], node: Node, seen: Seen, event: Event) -> Acted
 pub fn act(s: &mut [u8], node: Node, sound_table: bool, seen: Seen, event: Event) -> Acted
     ensures { λ r. ⌜ (r ≡ handedBack (acted event «sound_table» seen node (now (s .entry)))) × (now (s .exit) ≡ acted event «sound_table» seen node (now (s .entry)) .store) ⌝ }
 {
-    match first_verdict(s, sound_table, seen) {
-        Verdict::Refuse(why) => refused(why, node),
-        Verdict::Take => on_sound(s, node, seen, event),
+    match event {
+        Event::Write { node: k, tag } => decided_at(
+            s,
+            node,
+            sound_table,
+            seen,
+            k,
+            write(node, tag),
+        ),
+        Event::Retry { node: k } => decided_at(s, node, sound_table, seen, k, retry(node)),
+        Event::Crash { node: k } => decided_at(s, node, sound_table, seen, k, crash(node)),
+        Event::Start { node: k } => decided_at(s, node, sound_table, seen, k, start(node)),
+        Event::Drop { record } => Acted {
+            answer: drop_record(s, sound_table, seen, record),
+            node: node,
+        },
+        Event::Deliver { record } => deliver_record(s, node, sound_table, seen, record),
     }
 }

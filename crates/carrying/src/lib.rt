@@ -1,5 +1,7 @@
 // A decision carried out: what it sends goes into the store. Everything is proved, no public function has a `requires`,
 // and each gives what one definition of the crate `outcome` says.
+use decision::Decision;
+use decision::changed;
 use outcome::Acted;
 use outcome::refused;
 use protocol::Answer;
@@ -9,6 +11,7 @@ use protocol::Step;
 use sending::count_sent;
 ghost use mathlib.Core.Path.{_≡_};
 ghost use Rattle.protocol.specs.Operation.{isRefused};
+ghost use Rattle.decision.specs.Decision.{stepBy};
 ghost use Rattle.outcome.specs.Act.{handedBack, carriedOut};
 
 // Whether the answer is a refusal.
@@ -45,5 +48,35 @@ pub fn carry_out(s: &mut [u8], node: Node, free: usize, back: usize, step: Step)
     Acted {
         answer: answer,
         node: next,
+    }
+}
+
+// The decision of a node on a message of this sender, carried out.
+pub fn carry_decision(
+    s: &mut [u8],
+    node: Node,
+    free: usize,
+    sender: usize,
+    decision: Decision,
+) -> Acted
+    ensures { λ r. ⌜ (r ≡ handedBack (carriedOut node (now (s .entry)) free sender (stepBy node sender decision))) × (now (s .exit) ≡ carriedOut node (now (s .entry)) free sender (stepBy node sender decision) .store) ⌝ }
+{
+    let answer = decision.answer;
+    if is_refused(answer) {
+        return Acted {
+            answer: answer,
+            node: node,
+        };
+    }
+    let change = decision.change;
+    let sends = decision.sends;
+    let after = changed(node, sender, change);
+    if free < count_sent(after, sends, sender) {
+        return refused(Refusal::NoRoom, node);
+    }
+    mail::send_each(s, after, sends, sender);
+    Acted {
+        answer: answer,
+        node: after,
     }
 }

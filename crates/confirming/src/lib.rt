@@ -1,28 +1,30 @@
 // Delivery of Confirmed to one node by value: a node that is Confirming counts it. The sender and its incarnation are the
 // envelope's. Everything is proved, no public function has a `requires`, and each gives what one definition of the crate
 // `protocol` says.
+use decision::Decision;
+use decision::refused;
 use item::Attempt;
 use item::Incarnation;
 use item::Item;
-use node::is_counted;
-use node::own_write;
-use node::peer_of;
-use node::with_counted;
 use phase::is_confirming;
-use protocol::Node;
+use protocol::Peer;
 use protocol::Refusal;
-use protocol::Step;
 use settling::confirmed_counted;
-use step::refused;
+use view::View;
+use view::own_write;
+ghost use mathlib.Core.Bool.{_&&_};
 ghost use mathlib.Core.Path.{_≡_};
-ghost use Rattle.protocol.specs.Storing.{askedUnder, onConfirmed};
+ghost use Prim.Native.Nat.{ℕ};
+ghost use Rattle.protocol.specs.declared.Node.{Node};
+ghost use Rattle.view.specs.View.{Sees};
+ghost use Rattle.decision.specs.Decision.{stepBy};
+ghost use Rattle.counters.specs.Counter.{sameIncarnation};
+ghost use Rattle.protocol.specs.Storing.{onConfirmed};
 
 // Whether the sender is one of those asked, under this incarnation.
-fn asked_under(node: Node, sender: usize, incarnation: Incarnation) -> bool
-    ensures { λ r. ⌜ r ≡ askedUnder node sender incarnation ⌝ }
+fn asked_under(peer: Peer, incarnation: Incarnation) -> bool
+    ensures { λ r. ⌜ r ≡ peer .present && sameIncarnation (peer .incarnation) incarnation ⌝ }
 {
-    let asked = node.asked;
-    let peer = peer_of(asked, sender);
     if !peer.present {
         return false;
     }
@@ -32,28 +34,27 @@ fn asked_under(node: Node, sender: usize, incarnation: Incarnation) -> bool
 // Confirmed: refused with 9, with 10 (also where the sender was not asked under this incarnation) or 11; otherwise
 // the sender is counted.
 pub fn on_confirmed(
-    node: Node,
-    sender: usize,
+    view: View,
     incarnation: Incarnation,
     other: Incarnation,
     attempt: Attempt,
     item: Item,
-) -> Step
-    ensures { λ r. ⌜ r ≡ onConfirmed node sender incarnation other attempt item ⌝ }
+) -> Decision
+    ensures { λ r. ⌜ ((node : Node) (sender : ℕ) → Sees view node sender → stepBy node sender r ≡ onConfirmed node sender incarnation other attempt item) ⌝ }
 {
-    let phase = node.phase;
+    let phase = view.phase;
     if !is_confirming(phase) {
-        return refused(node, Refusal::NotTaken);
+        return refused(Refusal::NotTaken);
     }
-    if !own_write(node, other, attempt, item) {
-        return refused(node, Refusal::Stale);
+    if !own_write(view, other, attempt, item) {
+        return refused(Refusal::Stale);
     }
-    if !asked_under(node, sender, incarnation) {
-        return refused(node, Refusal::Stale);
+    let peer = view.asked;
+    if !asked_under(peer, incarnation) {
+        return refused(Refusal::Stale);
     }
-    if is_counted(node, sender) {
-        return refused(node, Refusal::Counted);
+    if view.counted {
+        return refused(Refusal::Counted);
     }
-    let next = with_counted(node, sender, incarnation);
-    confirmed_counted(next)
+    confirmed_counted(view, incarnation)
 }

@@ -1,24 +1,69 @@
 // Delivery of the message in a record. Everything is proved, the function has no `requires`, and it gives what one
 // definition of the crate `outcome` says.
+use admission::first_verdict;
+use carrying::carry_decision;
 use carrying::carry_out;
-use engine::deliver;
+use engine::Decided;
+use engine::decide;
+use engine::on_table;
+use item::Incarnation;
 use outcome::Acted;
+use outcome::Seen;
 use outcome::refused;
 use protocol::Node;
 use protocol::Refusal;
+use protocol::Verdict;
 use record::Reading;
+use view::view_of;
 ghost use mathlib.Core.Path.{_≡_};
+ghost use Rattle.record.specs.Layout.{recordOf, rowsOf};
 ghost use Rattle.store.specs.Sound.{messageAt};
-ghost use Rattle.outcome.specs.Act.{handedBack, delivered};
+ghost use Rattle.protocol.specs.Fetching.{onTable};
+ghost use Rattle.protocol.specs.declared.Event.the-variants.{Deliver};
+ghost use Rattle.outcome.specs.Act.{handedBack, carriedOut, delivered, acted};
+
+// Delivery of the Table in record `r`, which the whole node decides.
+fn deliver_table(
+    s: &mut [u8],
+    node: Node,
+    free: usize,
+    r: usize,
+    sender: usize,
+    incarnation: Incarnation,
+    other: Incarnation,
+) -> Acted
+    ensures { λ a. ⌜ (a ≡ handedBack (carriedOut node (now (s .entry)) free sender (onTable node sender incarnation other (rowsOf (recordOf (now (s .entry)) r))))) × (now (s .exit) ≡ carriedOut node (now (s .entry)) free sender (onTable node sender incarnation other (rowsOf (recordOf (now (s .entry)) r))) .store) ⌝ }
+{
+    let items = record_rows::rows(s, r);
+    let step = on_table(node, sender, incarnation, other, items);
+    carry_out(s, node, free, sender, step)
+}
 
 // Delivery of the message in record `r`, where so many records are free.
-pub fn deliver_message(s: &mut [u8], node: Node, free: usize, r: u64) -> Acted
+fn deliver_message(s: &mut [u8], node: Node, free: usize, r: u64) -> Acted
     ensures { λ a. ⌜ (a ≡ handedBack (delivered (messageAt (now (s .entry)) r) node (now (s .entry)) free r)) × (now (s .exit) ≡ delivered (messageAt (now (s .entry)) r) node (now (s .entry)) free r .store) ⌝ }
 {
     let Reading::Found(envelope) = inbox::message(s, r) else {
         return refused(Refusal::NoMessage, node);
     };
-    let items = record_rows::rows(s, r as usize);
-    let step = deliver(node, envelope, items);
-    carry_out(s, node, free, envelope.sender, step)
+    let sender = envelope.sender;
+    let incarnation = envelope.incarnation;
+    let message = envelope.message;
+    let view = view_of(node, sender);
+    match decide(view, incarnation, message) {
+        Decided::Seen(decision) => carry_decision(s, node, free, sender, decision),
+        Decided::Table(other) => {
+            deliver_table(s, node, free, r as usize, sender, incarnation, other)
+        }
+    }
+}
+
+// The Deliver of the record of this number, unless it is refused before.
+pub fn deliver_record(s: &mut [u8], node: Node, sound_table: bool, seen: Seen, number: u64) -> Acted
+    ensures { λ a. ⌜ (a ≡ handedBack (acted (Deliver number) «sound_table» seen node (now (s .entry)))) × (now (s .exit) ≡ acted (Deliver number) «sound_table» seen node (now (s .entry)) .store) ⌝ }
+{
+    match first_verdict(s, sound_table, seen) {
+        Verdict::Refuse(why) => refused(why, node),
+        Verdict::Take => deliver_message(s, node, seen.free, number),
+    }
 }

@@ -1,7 +1,10 @@
 // The engine over one node by value: every event, and a message delivered by its kind. Everything is proved, no public
 // function has a `requires`, and each gives what one definition of protocol's specs/ says.
 use confirming::on_confirmed;
-use fetching::on_table;
+use decision::Decision;
+use decision::step_of;
+pub use fetching::on_table;
+use item::Incarnation;
 use item::Item;
 use message::Envelope;
 use message::Message;
@@ -15,9 +18,52 @@ pub use restarting::crash;
 pub use restarting::start;
 pub use retrying::retry;
 use storing::on_stored;
+use view::View;
+use view::view_of;
 pub use writing::write;
+ghost use Prim.Native.Nat.{ℕ};
+ghost use mathlib.Core.List.{List};
 ghost use mathlib.Core.Path.{_≡_};
-ghost use Rattle.protocol.specs.Deliver.{deliverStep};
+ghost use Rattle.item.specs.declared.Item.{Item};
+ghost use Rattle.protocol.specs.Deliver.{onMessage, deliverStep};
+ghost use Rattle.protocol.specs.declared.Node.{Node};
+ghost use Rattle.view.specs.View.{Sees};
+ghost use Rattle.engine.specs.Decided.{decidedStep};
+
+// What is decided of a message: a decision by what is seen of the node, or that it is a Table with this other incarnation,
+// which the whole node decides.
+pub enum Decided {
+    Seen(Decision),
+    Table(Incarnation),
+}
+
+// What a node that is seen so makes of a message.
+pub fn decide(view: View, incarnation: Incarnation, message: Message) -> Decided
+    ensures { λ r. ⌜ ((node : Node) (sender : ℕ) (items : List Item) → Sees view node sender → decidedStep r node sender incarnation items ≡ onMessage message node sender incarnation items) ⌝ }
+{
+    match message {
+        Message::Store { attempt, item } => {
+            Decided::Seen(on_store(view, incarnation, attempt, item))
+        }
+        Message::Stored {
+            other,
+            attempt,
+            item,
+        } => Decided::Seen(on_stored(view, incarnation, other, attempt, item)),
+        Message::Confirm {
+            other,
+            attempt,
+            item,
+        } => Decided::Seen(on_confirm(view, incarnation, other, attempt, item)),
+        Message::Confirmed {
+            other,
+            attempt,
+            item,
+        } => Decided::Seen(on_confirmed(view, incarnation, other, attempt, item)),
+        Message::Fetch => Decided::Seen(on_fetch(view, incarnation)),
+        Message::Table { other } => Decided::Table(other),
+    }
+}
 
 // What the node makes of a message. `items` are the rows of a Table; the other kinds do not look at them.
 pub fn deliver(node: Node, envelope: Envelope, items: [Item; Node::MAX_ROWS]) -> Step
@@ -26,24 +72,9 @@ pub fn deliver(node: Node, envelope: Envelope, items: [Item; Node::MAX_ROWS]) ->
     let sender = envelope.sender;
     let incarnation = envelope.incarnation;
     let message = envelope.message;
-    match message {
-        Message::Store { attempt, item } => on_store(node, sender, incarnation, attempt, item),
-        Message::Stored {
-            other,
-            attempt,
-            item,
-        } => on_stored(node, sender, incarnation, other, attempt, item),
-        Message::Confirm {
-            other,
-            attempt,
-            item,
-        } => on_confirm(node, sender, incarnation, other, attempt, item),
-        Message::Confirmed {
-            other,
-            attempt,
-            item,
-        } => on_confirmed(node, sender, incarnation, other, attempt, item),
-        Message::Fetch => on_fetch(node, incarnation),
-        Message::Table { other } => on_table(node, sender, incarnation, other, items),
+    let view = view_of(node, sender);
+    match decide(view, incarnation, message) {
+        Decided::Seen(decision) => step_of(node, sender, decision),
+        Decided::Table(other) => on_table(node, sender, incarnation, other, items),
     }
 }

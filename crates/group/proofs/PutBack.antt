@@ -122,11 +122,11 @@ module _ (e : Event) (table : List Node) (store : List ℕ) where
   withSeen seen = atPlace e (soundTable (seen .n) table) seen table store
 
   performed-wrong : rightLength store ≡ false → byNode ≡ whole.perform e table store
-  unfolding atPlace one.acted one.actedOn one.firstVerdict whole.perform lookAt
+  unfolding atPlace one.acted one.admitted one.firstVerdict whole.perform lookAt
   performed-wrong p = rw p (refused-at table store place StoreLength)
 
   performed-unsound : rightLength store ≡ true → soundRecords (recordsOf store) ≡ false → byNode ≡ whole.perform e table store
-  unfolding atPlace one.acted one.actedOn one.firstVerdict whole.perform whole.onRecords
+  unfolding atPlace one.acted one.admitted one.firstVerdict whole.perform whole.onRecords
   performed-unsound p q = ap withSeen (seen-unsound p q) ∙ rw (p, q) (refused-at table store place Unsound)
 
   -- on a sound store the table decides

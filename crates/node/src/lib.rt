@@ -1,12 +1,10 @@
-// One node by value: its rows and what it writes; with it what is read of its peers, from the crate `peers`, and each
+// One node by value: its rows; with it what is read of its peers, from the crate `peers`, and each
 // kind of change of it, from the crates `change`, `stage_change` and `lifecycle`. Everything is proved, no public function
 // has a `requires`, and each gives what one definition of the crate `protocol` says. A number past the last row reads as
 // zero.
 pub use change::with_counted;
 pub use change::with_row;
 pub use change::with_rows;
-use item::Attempt;
-use item::Incarnation;
 use item::Item;
 use item::Row;
 pub use lifecycle::crashed;
@@ -22,7 +20,6 @@ pub use stage_change::storing_begun;
 pub use stage_change::write_ended;
 ghost use mathlib.Core.Path.{_≡_};
 ghost use Rattle.protocol.specs.Node.{rowOf, ownItem};
-ghost use Rattle.protocol.specs.Storing.{ownWrite};
 
 // The row of node i; past the last row, the zero row.
 pub fn row_of(node: Node, i: usize) -> Row
@@ -41,18 +38,4 @@ pub fn own_item(node: Node) -> Item
     let number = node.number;
     let row = row_of(node, number);
     row.item
-}
-
-// Whether other incarnation, attempt and item are the node's own present ones.
-pub fn own_write(node: Node, other: Incarnation, attempt: Attempt, item: Item) -> bool
-    ensures { λ r. ⌜ r ≡ ownWrite node other attempt item ⌝ }
-{
-    if !other.same(node.incarnation) {
-        return false;
-    }
-    if !attempt.same(node.attempt) {
-        return false;
-    }
-    let own = own_item(node);
-    item.same(own)
 }

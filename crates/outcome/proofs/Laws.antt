@@ -33,7 +33,7 @@ use Rattle.protocol.specs.declared.Step.{Step}
 use Rattle.protocol.specs.declared.Verdict.{Verdict}
 use Rattle.protocol.specs.declared.Verdict.the-variants.{Take, Refuse}
 use Rattle.outcome.specs.declared.Seen.{Seen}
-use Rattle.outcome.specs.Act.{Outcome, droppingOf, refuse, sentBy, carriedOut, atNode, dropped, delivered, onSound, firstVerdict, actedOn, acted}
+use Rattle.outcome.specs.Act.{Outcome, droppingOf, refuse, sentBy, carriedOut, atNode, dropped, delivered, onSound, firstVerdict, admitted, acted}
 
 -- where a message is found the store has its length
 pub found-length : (store : List ℕ) (r : ℕ) {e : Envelope} → messageAt store r ≡ Found e
@@ -138,12 +138,12 @@ module _ (store : List ℕ) (t : Bool) (seen : Seen) where
 
   module _ (e : Event) (node : Node) where
     pub acted-refused : {why : Refusal} → firstVerdict store t seen ≡ Refuse why → acted e t seen node store ≡ refuse why node store
-    unfolding acted actedOn
-    acted-refused p = ap (λ (v : Verdict). actedOn v e seen node store) p
+    unfolding acted admitted
+    acted-refused p = ap (λ (v : Verdict). admitted v node store (onSound e node store seen)) p
 
     pub acted-taken : firstVerdict store t seen ≡ Take → acted e t seen node store ≡ onSound e node store seen
-    unfolding acted actedOn
-    acted-taken p = ap (λ (v : Verdict). actedOn v e seen node store) p
+    unfolding acted admitted
+    acted-taken p = ap (λ (v : Verdict). admitted v node store (onSound e node store seen)) p
 
 -- ---- a Drop looks at no node
 
@@ -153,10 +153,10 @@ dropped-node Fault node store r = refl
 dropped-node (Found e) node store r = refl
 
 pub drop-node : (r : ℕ) (t : Bool) (seen : Seen) (node : Node) (store : List ℕ) → acted (event.Drop r) t seen node store .node ≡ node
-unfolding acted actedOn onSound
+unfolding acted admitted onSound
 drop-node r t seen node store = go (firstVerdict store t seen)
   where
-    go : (v : Verdict) → actedOn v (event.Drop r) seen node store .node ≡ node
+    go : (v : Verdict) → admitted v node store (onSound (event.Drop r) node store seen) .node ≡ node
     go (Refuse why) = refl
     go Take = dropped-node (messageAt store r) node store r
 

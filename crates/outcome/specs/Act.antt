@@ -133,10 +133,10 @@ unfoldable pub firstVerdict : List ℕ → Bool → Seen → Verdict
 firstVerdict store soundTable look =
     cond (rightLength store) (cond (look .sound && soundTable) Take (Refuse Unsound)) (Refuse StoreLength)
 
--- "then 4"
-unfoldable pub actedOn : Verdict → Event → Seen → Node → List ℕ → Outcome
-actedOn (Refuse why) e look node store = refuse why node store
-actedOn Take e look node store = onSound e node store look
+-- "then 4": what comes of an event that nothing refuses before
+unfoldable pub admitted : Verdict → Node → List ℕ → Outcome → Outcome
+admitted (Refuse why) node store o = refuse why node store
+admitted Take node store o = o
 
 unfoldable pub acted : Event → Bool → Seen → Node → List ℕ → Outcome
-acted e soundTable look node store = actedOn (firstVerdict store soundTable look) e look node store
+acted e soundTable look node store = admitted (firstVerdict store soundTable look) node store (onSound e node store look)

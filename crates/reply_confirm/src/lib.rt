@@ -1,20 +1,24 @@
 // Delivery of Confirm to one node by value: a node that is Up answers Confirmed if its row is as the message says. The
 // sender and its incarnation are the envelope's. Everything is proved, no public function has a `requires`, and each
 // gives what one definition of the crate `protocol` says.
+use decision::Change;
+use decision::Decision;
+use decision::ok;
+use decision::refused;
 use item::Attempt;
 use item::Incarnation;
 use item::Item;
 use item::Row;
 use message::Message;
-use node::row_of;
 use phase::is_up;
-use protocol::Node;
 use protocol::Refusal;
 use protocol::Sends;
-use protocol::Step;
-use step::ok;
-use step::refused;
+use view::View;
 ghost use mathlib.Core.Path.{_≡_};
+ghost use Prim.Native.Nat.{ℕ};
+ghost use Rattle.protocol.specs.declared.Node.{Node};
+ghost use Rattle.view.specs.View.{Sees};
+ghost use Rattle.decision.specs.Decision.{stepBy};
 ghost use Rattle.protocol.specs.Storing.{storedUnder, onConfirm};
 
 // Whether the row has this item, stored under these counters.
@@ -33,28 +37,27 @@ fn stored_under(row: Row, incarnation: Incarnation, attempt: Attempt, item: Item
 // Confirm: refused with 9, or with 10 where the node has started since it stored or the sender's row has something
 // else by now; otherwise Confirmed goes back.
 pub fn on_confirm(
-    node: Node,
-    sender: usize,
+    view: View,
     incarnation: Incarnation,
     other: Incarnation,
     attempt: Attempt,
     item: Item,
-) -> Step
-    ensures { λ r. ⌜ r ≡ onConfirm node sender incarnation other attempt item ⌝ }
+) -> Decision
+    ensures { λ r. ⌜ ((node : Node) (sender : ℕ) → Sees view node sender → stepBy node sender r ≡ onConfirm node sender incarnation other attempt item) ⌝ }
 {
-    let phase = node.phase;
+    let phase = view.phase;
     if !is_up(phase) {
-        return refused(node, Refusal::NotTaken);
+        return refused(Refusal::NotTaken);
     }
-    if !other.same(node.incarnation) {
-        return refused(node, Refusal::Stale);
+    if !other.same(view.incarnation) {
+        return refused(Refusal::Stale);
     }
-    let row = row_of(node, sender);
+    let row = view.row;
     if !stored_under(row, incarnation, attempt, item) {
-        return refused(node, Refusal::Stale);
+        return refused(Refusal::Stale);
     }
     ok(
-        node,
+        Change::Nothing,
         Sends::Back(Message::Confirmed {
             other: incarnation,
             attempt: attempt,

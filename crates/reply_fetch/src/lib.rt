@@ -1,24 +1,32 @@
 // Delivery of Fetch to one node by value: a node that is Up answers with its rows in a Table. Everything is proved, no
 // public function has a `requires`, and each gives what one definition of protocol's specs/Fetching says.
+use decision::Change;
+use decision::Decision;
+use decision::ok;
+use decision::refused;
 use item::Incarnation;
 use message::Message;
 use phase::is_up;
-use protocol::Node;
 use protocol::Refusal;
 use protocol::Sends;
-use protocol::Step;
-use step::ok;
-use step::refused;
+use view::View;
 ghost use mathlib.Core.Path.{_≡_};
+ghost use Prim.Native.Nat.{ℕ};
+ghost use Rattle.protocol.specs.declared.Node.{Node};
+ghost use Rattle.view.specs.View.{Sees};
+ghost use Rattle.decision.specs.Decision.{stepBy};
 ghost use Rattle.protocol.specs.Fetching.{onFetch};
 
 // Fetch: refused with 9 unless the node is Up; otherwise its rows go back in a Table.
-pub fn on_fetch(node: Node, incarnation: Incarnation) -> Step
-    ensures { λ r. ⌜ r ≡ onFetch node incarnation ⌝ }
+pub fn on_fetch(view: View, incarnation: Incarnation) -> Decision
+    ensures { λ r. ⌜ ((node : Node) (sender : ℕ) → Sees view node sender → stepBy node sender r ≡ onFetch node incarnation) ⌝ }
 {
-    let phase = node.phase;
+    let phase = view.phase;
     if !is_up(phase) {
-        return refused(node, Refusal::NotTaken);
+        return refused(Refusal::NotTaken);
     }
-    ok(node, Sends::Back(Message::Table { other: incarnation }))
+    ok(
+        Change::Nothing,
+        Sends::Back(Message::Table { other: incarnation }),
+    )
 }

@@ -1,23 +1,26 @@
 // Delivery of Store to one node by value: a node that is Up stores it and answers Stored. The sender and its
 // incarnation are the envelope's. Everything is proved, no public function has a `requires`, and each gives what one
 // definition of the crate `protocol` says.
+use decision::Change;
+use decision::Decision;
+use decision::ok;
+use decision::refused;
 use item::Attempt;
 use item::Incarnation;
 use item::Item;
 use item::Row;
 use item::counters_earlier;
 use message::Message;
-use node::row_of;
-use node::with_row;
 use phase::is_up;
-use protocol::Node;
 use protocol::Refusal;
 use protocol::Sends;
-use protocol::Step;
 use protocol::Verdict;
-use step::ok;
-use step::refused;
+use view::View;
 ghost use mathlib.Core.Path.{_≡_};
+ghost use Prim.Native.Nat.{ℕ};
+ghost use Rattle.protocol.specs.declared.Node.{Node};
+ghost use Rattle.view.specs.View.{Sees};
+ghost use Rattle.decision.specs.Decision.{stepBy};
 ghost use Rattle.protocol.specs.Storing.{storeVerdict, replyStore, onStore};
 
 // What the row says to an item stored under these counters (refusals 12, 13, 10).
@@ -40,18 +43,11 @@ fn store_verdict(row: Row, incarnation: Incarnation, attempt: Attempt, item: Ite
 }
 
 // Where the verdict is to take it, the sender's row takes the item with these counters, and Stored goes back.
-fn reply_store(
-    verdict: Verdict,
-    node: Node,
-    sender: usize,
-    incarnation: Incarnation,
-    attempt: Attempt,
-    item: Item,
-) -> Step
-    ensures { λ r. ⌜ r ≡ replyStore verdict node sender incarnation attempt item ⌝ }
+fn reply_store(verdict: Verdict, incarnation: Incarnation, attempt: Attempt, item: Item) -> Decision
+    ensures { λ r. ⌜ ((node : Node) (sender : ℕ) → stepBy node sender r ≡ replyStore verdict node sender incarnation attempt item) ⌝ }
 {
     match verdict {
-        Verdict::Refuse(why) => refused(node, why),
+        Verdict::Refuse(why) => refused(why),
         Verdict::Take => {
             let row = Row {
                 item: item,
@@ -59,9 +55,8 @@ fn reply_store(
                 attempt: attempt,
                 marked: false,
             };
-            let next = with_row(node, sender, row);
             ok(
-                next,
+                Change::Row(row),
                 Sends::Back(Message::Stored {
                     other: incarnation,
                     attempt: attempt,
@@ -73,20 +68,14 @@ fn reply_store(
 }
 
 // Store: refused with 9, 12, 13 or 10; otherwise the sender's row takes the item, and Stored goes back.
-pub fn on_store(
-    node: Node,
-    sender: usize,
-    incarnation: Incarnation,
-    attempt: Attempt,
-    item: Item,
-) -> Step
-    ensures { λ r. ⌜ r ≡ onStore node sender incarnation attempt item ⌝ }
+pub fn on_store(view: View, incarnation: Incarnation, attempt: Attempt, item: Item) -> Decision
+    ensures { λ r. ⌜ ((node : Node) (sender : ℕ) → Sees view node sender → stepBy node sender r ≡ onStore node sender incarnation attempt item) ⌝ }
 {
-    let phase = node.phase;
+    let phase = view.phase;
     if !is_up(phase) {
-        return refused(node, Refusal::NotTaken);
+        return refused(Refusal::NotTaken);
     }
-    let row = row_of(node, sender);
+    let row = view.row;
     let verdict = store_verdict(row, incarnation, attempt, item);
-    reply_store(verdict, node, sender, incarnation, attempt, item)
+    reply_store(verdict, incarnation, attempt, item)
 }

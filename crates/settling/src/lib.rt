@@ -1,43 +1,45 @@
 // What a node that has counted one more Confirmed does: at f of them its write has ended, and is settled, or accepted where
 // the node was Returning. Everything is proved, no public function has a `requires`, and each gives what one definition of
 // the crate `protocol` says.
+use decision::Change;
+use decision::Decision;
+use decision::ok;
+use item::Incarnation;
 use item::Item;
-use node::count_peers;
 use node::half;
-use node::own_item;
-use node::write_ended;
 use phase::is_returning;
 use protocol::Answer;
-use protocol::Node;
 use protocol::Phase;
 use protocol::Sends;
-use protocol::Step;
-use step::ok;
+use view::View;
 ghost use mathlib.Core.Path.{_≡_};
-ghost use Rattle.protocol.specs.Storing.{endAnswer, storeSuccess, confirmedCounted};
+ghost use Prim.Native.Nat.{ℕ};
+ghost use Rattle.protocol.specs.declared.Node.{Node};
+ghost use Rattle.view.specs.View.{Sees};
+ghost use Rattle.decision.specs.Decision.{endedWith, stepBy};
+ghost use Rattle.protocol.specs.Node.{withCounted};
+ghost use Rattle.protocol.specs.Storing.{endAnswer, confirmedCounted};
 
 // The sender is counted: at f the write ends.
-pub fn confirmed_counted(node: Node) -> Step
-    ensures { λ r. ⌜ r ≡ confirmedCounted node ⌝ }
+pub fn confirmed_counted(view: View, incarnation: Incarnation) -> Decision
+    ensures { λ r. ⌜ ((node : Node) (sender : ℕ) → Sees view node sender → stepBy node sender r ≡ confirmedCounted (withCounted node sender incarnation)) ⌝ }
 {
-    let counted = node.counted;
-    if count_peers(counted) < half(node.n) {
-        return ok(node, Sends::Nothing);
+    if view.count < half(view.n) {
+        return ok(Change::Counted(incarnation), Sends::Nothing);
     }
-    store_success(node)
+    let phase = view.phase;
+    let item = view.own;
+    store_success(phase, item)
 }
 
 // The write has ended: the node is Up and Idle.
-fn store_success(node: Node) -> Step
-    ensures { λ r. ⌜ r ≡ storeSuccess node ⌝ }
+fn store_success(phase: Phase, item: Item) -> Decision
+    ensures { λ r. ⌜ r ≡ endedWith (endAnswer phase item) ⌝ }
 {
-    let phase = node.phase;
-    let item = own_item(node);
     let answer = end_answer(phase, item);
-    let next = write_ended(node);
-    Step {
+    Decision {
         answer: answer,
-        node: next,
+        change: Change::Ended,
         sends: Sends::Nothing,
     }
 }

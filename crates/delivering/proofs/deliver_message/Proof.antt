@@ -1,6 +1,11 @@
--- `delivering::deliver_message` meets its contract.
+-- `delivering::deliver_message` meets its contract: no message, what is decided by what is seen of the node, or a Table.
 use Rattle.outcome.proofs.Laws.{delivered-none, delivered-some}
 use Rattle.outcome.specs.Act.{Outcome, handedBack}
+use Rattle.record.specs.Layout.{recordOf, rowsOf}
+use Rattle.protocol.specs.Deliver.{deliverStep}
+use Rattle.protocol.specs.Fetching.{onTable}
+use Rattle.decision.specs.Decision.{stepBy}
+use Rattle.engine.specs.Decided.{decidedStep}
 use denote.Ref.{now}
 use mathlib.Core.Path.{_≡_, refl, sym, ap, _∙_}
 use borrow.Author.Needs.{needs}
@@ -23,22 +28,56 @@ same-length : tie.Need-same-length
 same-length c = search needs
 
 returns : tie.Need-returns
-returns c = let a = c .before .before .before .before .before .before .args in let e = delivered-none (a .node) (now (a .s)) (a .r) (a .free) (sym (c .before .before .before .message .ensures) ∙ c .before .enum-told .given .1) in (c .refused .ensures ∙ ap handedBack (sym e), ap (λ (o : Outcome). o .store) (sym e))
+returns c =
+    let a = c .before .before .before .before .before .before .args in
+    let e = delivered-none (a .node) (now (a .s)) (a .r) (a .free) (sym (c .before .before .before .message .ensures) ∙ c .before .enum-told .given .1) in
+    (c .refused .ensures ∙ ap handedBack (sym e), ap (λ (o : Outcome). o .store) (sym e))
 
-rows-requires : tie.Need-rows-requires
-rows-requires c κs = search needs
+view-of-requires : tie.Need-view-of-requires
+view-of-requires c κs = search needs
 
-deliver-requires : tie.Need-deliver-requires
-deliver-requires c κs = search needs
+decide-requires : tie.Need-decide-requires
+decide-requires c κs = search needs
 
-carry-out-requires : tie.Need-carry-out-requires
-carry-out-requires c κs = search needs
+enum-known-decision : tie.Need-enum-known-decision
+enum-known-decision c = search needs
+
+carry-decision-requires : tie.Need-carry-decision-requires
+carry-decision-requires c κs = search needs
+
+enum-known-other : tie.Need-enum-known-other
+enum-known-other c = search needs
+
+deliver-table-requires : tie.Need-deliver-table-requires
+deliver-table-requires c κs = search needs
 
 same-length-2 : tie.Need-same-length-2
 same-length-2 c = search needs
 
 returns-2 : tie.Need-returns-2
-returns-2 c = let a = c .before .before .before .before .before .before .before .before .before .before .before .before .before .args in let e = delivered-some (a .node) (now (a .s)) (a .r) (a .free) (c .before .before .before .before .before .rows .result) (c .before .before .before .before .deliver .result) refl (sym (c .before .before .before .before .before .before .before .before .before .before .message .ensures) ∙ c .before .before .before .before .before .before .before .before .envelope .given .1) (c .before .before .before .before .before .rows .ensures) (c .before .before .before .before .deliver .ensures) in let d = c .before .before .carry-out .ensures in (d .0 ∙ ap handedBack (sym e), d .1 ∙ ap (λ (o : Outcome). o .store) (sym e))
+unfolding decidedStep deliverStep
+returns-2 c =
+    let a = c .before .before .before .before .before .before .before .before .before .before .before .before .before .before .before .before .args in
+    let found = c .before .before .before .before .before .before .before .before .before .before .before .envelope .given .0 .0 in
+    let rows = rowsOf (recordOf (now (a .s)) (a .r)) in
+    let decided = rw (c .before .before .before .before .before .decision .given .1) at (c .before .before .before .before .before .before .before .decide .ensures (a .node) (found .sender) rows (sym (c .before .before .before .before .before .before .before .before .view-of .ensures))) in
+    let e = delivered-some (a .node) (now (a .s)) (a .r) (a .free) rows (stepBy (a .node) (found .sender) (c .before .before .before .before .before .decision .given .0 .0)) refl (sym (c .before .before .before .before .before .before .before .before .before .before .before .before .before .message .ensures) ∙ c .before .before .before .before .before .before .before .before .before .before .before .envelope .given .1) refl decided in
+    let d = c .before .before .carry-decision .ensures in
+    (d .0 ∙ ap handedBack (sym e), d .1 ∙ ap (λ (o : Outcome). o .store) (sym e))
+
+same-length-3 : tie.Need-same-length-3
+same-length-3 c = search needs
+
+returns-3 : tie.Need-returns-3
+unfolding decidedStep deliverStep
+returns-3 c =
+    let a = c .before .before .before .before .before .before .before .before .before .before .before .before .before .before .before .before .args in
+    let found = c .before .before .before .before .before .before .before .before .before .before .before .envelope .given .0 .0 in
+    let rows = rowsOf (recordOf (now (a .s)) (a .r)) in
+    let decided = rw (c .before .before .before .before .before .other .given .1) at (c .before .before .before .before .before .before .before .decide .ensures (a .node) (found .sender) rows (sym (c .before .before .before .before .before .before .before .before .view-of .ensures))) in
+    let e = delivered-some (a .node) (now (a .s)) (a .r) (a .free) rows (onTable (a .node) (found .sender) (found .incarnation) (c .before .before .before .before .before .other .given .0 .0) rows) refl (sym (c .before .before .before .before .before .before .before .before .before .before .before .before .before .message .ensures) ∙ c .before .before .before .before .before .before .before .before .before .before .before .envelope .given .1) refl decided in
+    let d = c .before .before .deliver-table .ensures in
+    (d .0 ∙ ap handedBack (sym e), d .1 ∙ ap (λ (o : Outcome). o .store) (sym e))
 
 pub deliver-message-spec : {M : Type 1} → statement M
 deliver-message-spec =
@@ -50,8 +89,13 @@ deliver-message-spec =
     refused-requires
     same-length
     returns
-    rows-requires
-    deliver-requires
-    carry-out-requires
+    view-of-requires
+    decide-requires
+    enum-known-decision
+    carry-decision-requires
+    enum-known-other
+    deliver-table-requires
     same-length-2
-    returns-2)
+    returns-2
+    same-length-3
+    returns-3)

@@ -1,7 +1,9 @@
--- `reply_store::on_store` meets its contract: a refusal where the node is not Up, and the reply by the verdict of
--- the sender's row.
+-- `reply_store::on_store` meets its contract: a refusal where the node is not Up, and the reply by the verdict of the sender's row.
 use Rattle.item.specs.Tests.{refuted, granted}
+use Rattle.decision.specs.Decision.{changed, stepBy}
+use Rattle.protocol.specs.Answer.{ok, refused}
 use Rattle.protocol.specs.Storing.{onStore}
+use Rattle.view.proofs.Seen.{phase-seen, row-seen}
 use Rattle.reply_store.proofs.on_store.Statement.{statement}
 use Rattle.reply_store.proofs.on_store.Tie as tie
 
@@ -12,11 +14,10 @@ refused-requires : tie.Need-refused-requires
 refused-requires c κs = tt
 
 returns : tie.Need-returns
-unfolding onStore
-returns c = rw (c .refused .ensures, refuted (c .before .before .is-up .ensures) (c .before .if1 .taken))
-
-row-of-requires : tie.Need-row-of-requires
-row-of-requires c κs = tt
+unfolding onStore stepBy changed refused
+returns c node sender e =
+    let down = rw (phase-seen node sender e) at (refuted (c .before .before .is-up .ensures) (c .before .if1 .taken)) in
+    rw (c .refused .ensures, down)
 
 store-verdict-requires : tie.Need-store-verdict-requires
 store-verdict-requires c κs = tt
@@ -26,9 +27,9 @@ reply-store-requires c κs = tt
 
 returns-2 : tie.Need-returns-2
 unfolding onStore
-returns-2 c =
-    let up = granted (c .before .before .before .before .is-up .ensures) (c .before .before .before .if1 .left) in
-    rw (c .reply-store .ensures, c .before .store-verdict .ensures, c .before .before .row-of .ensures, up)
+returns-2 c node sender e =
+    let up = rw (phase-seen node sender e) at (granted (c .before .before .before .before .is-up .ensures) (c .before .before .before .if1 .left)) in
+    rw (c .reply-store .ensures node sender, c .before .store-verdict .ensures, row-seen node sender e, up)
 
 pub on-store-spec : {M : Type 1} → statement M
 on-store-spec =
@@ -37,7 +38,6 @@ on-store-spec =
     is-up-requires
     refused-requires
     returns
-    row-of-requires
     store-verdict-requires
     reply-store-requires
     returns-2)

@@ -1,4 +1,6 @@
 -- `reply_store::reply_store` meets its contract: an arm for each verdict.
+use Rattle.decision.specs.Decision.{changed, stepBy}
+use Rattle.protocol.specs.Answer.{ok, refused}
 use Rattle.protocol.specs.Storing.{replyStore}
 use borrow.Author.Needs.{needs}
 use Rattle.reply_store.proofs.reply_store.Statement.{statement}
@@ -13,28 +15,18 @@ refused-requires c κs = tt
 enum-told : tie.Need-enum-told
 enum-told c = search needs
 
-with-row-requires : tie.Need-with-row-requires
-with-row-requires c κs = tt
-
 ok-requires : tie.Need-ok-requires
 ok-requires c κs = tt
 
 returns : tie.Need-returns
-unfolding replyStore
-returns c = rw (c .refused .ensures, c .before .before .verdict .given .1)
+unfolding replyStore stepBy changed refused
+returns c node sender = rw (c .refused .ensures, c .before .before .verdict .given .1)
 
 returns-2 : tie.Need-returns-2
-unfolding replyStore
-returns-2 c = rw (c .ok .ensures, c .before .with-row .ensures, c .before .before .enum-told .given .1)
+unfolding replyStore stepBy changed ok
+returns-2 c node sender = rw (c .ok .ensures, c .before .enum-told .given .1)
 
 pub reply-store-spec : {M : Type 1} → statement M
 reply-store-spec =
     tie.close
-    (tie.spec
-    enum-known-verdict
-    refused-requires
-    enum-told
-    with-row-requires
-    ok-requires
-    returns
-    returns-2)
+    (tie.spec enum-known-verdict refused-requires enum-told ok-requires returns returns-2)

@@ -1,11 +1,12 @@
--- `settling::confirmed_counted` meets its contract: the count is held to f, both by calls.
+-- `settling::confirmed_counted` meets its contract: the count is held to f.
 use borrow.Author.Tests.{lt-ltb, le-ltb}
-use Rattle.protocol.specs.Storing.{confirmedCounted}
+use Rattle.decision.specs.Decision.{changed, stepBy}
+use Rattle.protocol.specs.Answer.{ok}
+use Rattle.protocol.specs.Node.{rowOf, ownItem, withCounted, writeEnded}
+use Rattle.protocol.specs.Storing.{storeSuccess, confirmedCounted}
+use Rattle.view.proofs.Seen.{phase-seen, own-seen, below-half-seen}
 use Rattle.settling.proofs.confirmed_counted.Statement.{statement}
 use Rattle.settling.proofs.confirmed_counted.Tie as tie
-
-count-peers-requires : tie.Need-count-peers-requires
-count-peers-requires c κs = tt
 
 half-requires : tie.Need-half-requires
 half-requires c κs = tt
@@ -14,27 +15,20 @@ ok-requires : tie.Need-ok-requires
 ok-requires c κs = tt
 
 returns : tie.Need-returns
-unfolding confirmedCounted
-returns c =
-    let few = rw (c .before .before .before .count-peers .ensures, c .before .before .half .ensures) at (lt-ltb _ _ (c .before .if1 .taken)) in
+unfolding confirmedCounted stepBy changed ok
+returns c node sender e =
+    let few = rw (c .before .before .before .half .ensures, below-half-seen node sender e (c .before .before .before .before .args .incarnation)) at (lt-ltb _ _ (c .before .if1 .taken)) in
     rw (c .ok .ensures, few)
 
 store-success-requires : tie.Need-store-success-requires
 store-success-requires c κs = tt
 
 returns-2 : tie.Need-returns-2
-unfolding confirmedCounted
-returns-2 c =
-    let enough = rw (c .before .before .before .count-peers .ensures, c .before .before .half .ensures) at (le-ltb _ _ (c .before .if1 .left)) in
-    rw (c .store-success .ensures, enough)
+unfolding confirmedCounted storeSuccess stepBy changed writeEnded withCounted ownItem rowOf
+returns-2 c node sender e =
+    let enough = rw (c .before .before .before .before .half .ensures, below-half-seen node sender e (c .before .before .before .before .before .args .incarnation)) at (le-ltb _ _ (c .before .before .if1 .left)) in
+    rw (c .store-success .ensures, phase-seen node sender e, own-seen node sender e, enough)
 
 pub confirmed-counted-spec : {M : Type 1} → statement M
 confirmed-counted-spec =
-    tie.close
-    (tie.spec
-    count-peers-requires
-    half-requires
-    ok-requires
-    returns
-    store-success-requires
-    returns-2)
+    tie.close (tie.spec half-requires ok-requires returns store-success-requires returns-2)

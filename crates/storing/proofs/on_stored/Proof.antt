@@ -1,7 +1,11 @@
 -- `storing::on_stored` meets its contract: a refusal for each test, and the sender counted.
 use Rattle.item.specs.Tests.{refuted, granted}
 use Rattle.node.proofs.Answered.{answered}
+use Rattle.decision.specs.Decision.{changed, stepBy}
+use Rattle.protocol.specs.Answer.{refused}
 use Rattle.protocol.specs.Storing.{onStored}
+use Rattle.view.proofs.Seen.{phase-seen, counted-seen}
+use mathlib.Core.Path.{sym}
 use Rattle.storing.proofs.on_stored.Statement.{statement}
 use Rattle.storing.proofs.on_stored.Tie as tie
 
@@ -12,8 +16,10 @@ refused-requires : tie.Need-refused-requires
 refused-requires c κs = tt
 
 returns : tie.Need-returns
-unfolding onStored
-returns c = rw (c .refused .ensures, refuted (c .before .before .is-storing .ensures) (c .before .if1 .taken))
+unfolding onStored stepBy changed refused
+returns c node sender e =
+    let resting = rw (phase-seen node sender e) at (refuted (c .before .before .is-storing .ensures) (c .before .if1 .taken)) in
+    rw (c .refused .ensures, resting)
 
 own-write-requires : tie.Need-own-write-requires
 own-write-requires c κs = tt
@@ -22,37 +28,30 @@ refused-requires-2 : tie.Need-refused-requires-2
 refused-requires-2 c κs = tt
 
 returns-2 : tie.Need-returns-2
-unfolding onStored
-returns-2 c =
-    let storing = granted (c .before .before .before .before .is-storing .ensures) (c .before .before .before .if1 .left) in
-    rw (c .refused2 .ensures, storing, refuted (c .before .before .own-write .ensures) (c .before .if2 .taken))
-
-is-counted-requires : tie.Need-is-counted-requires
-is-counted-requires c κs = tt
+unfolding onStored stepBy changed refused
+returns-2 c node sender e =
+    let storing = rw (phase-seen node sender e) at (granted (c .before .before .before .before .is-storing .ensures) (c .before .before .before .if1 .left)) in
+    rw (c .refused2 .ensures, storing, refuted (c .before .before .own-write .ensures node sender e) (c .before .if2 .taken))
 
 refused-requires-3 : tie.Need-refused-requires-3
 refused-requires-3 c κs = tt
 
 returns-3 : tie.Need-returns-3
-unfolding onStored
-returns-3 c =
-    let storing = granted (c .before .before .before .before .before .before .is-storing .ensures) (c .before .before .before .before .before .if1 .left) in
-    let own = granted (c .before .before .before .before .own-write .ensures) (c .before .before .before .if2 .left) in
-    rw (c .refused3 .ensures, storing, own, answered (c .before .before .is-counted .ensures) (c .before .if3 .taken))
-
-with-counted-requires : tie.Need-with-counted-requires
-with-counted-requires c κs = tt
+unfolding onStored stepBy changed refused
+returns-3 c node sender e =
+    let storing = rw (phase-seen node sender e) at (granted (c .before .before .before .before .before .is-storing .ensures) (c .before .before .before .before .if1 .left)) in
+    let own = granted (c .before .before .before .own-write .ensures node sender e) (c .before .before .if2 .left) in
+    rw (c .refused3 .ensures, storing, own, answered (counted-seen node sender e) (c .before .if3 .taken))
 
 stored-counted-requires : tie.Need-stored-counted-requires
 stored-counted-requires c κs = tt
 
 returns-4 : tie.Need-returns-4
 unfolding onStored
-returns-4 c =
-    let storing = granted (c .before .before .before .before .before .before .before .is-storing .ensures) (c .before .before .before .before .before .before .if1 .left) in
-    let own = granted (c .before .before .before .before .before .own-write .ensures) (c .before .before .before .before .if2 .left) in
-    let uncounted = answered (c .before .before .before .is-counted .ensures) (c .before .before .if3 .left) in
-    rw (c .stored-counted .ensures, storing, own, uncounted, c .before .with-counted .ensures)
+returns-4 c node sender e =
+    let storing = rw (phase-seen node sender e) at (granted (c .before .before .before .before .before .is-storing .ensures) (c .before .before .before .before .if1 .left)) in
+    let own = granted (c .before .before .before .own-write .ensures node sender e) (c .before .before .if2 .left) in
+    rw (c .stored-counted .ensures node sender e, storing, own, answered (counted-seen node sender e) (c .before .if3 .left))
 
 pub on-stored-spec : {M : Type 1} → statement M
 on-stored-spec =
@@ -64,9 +63,7 @@ on-stored-spec =
     own-write-requires
     refused-requires-2
     returns-2
-    is-counted-requires
     refused-requires-3
     returns-3
-    with-counted-requires
     stored-counted-requires
     returns-4)
