@@ -1,6 +1,6 @@
-// Delivery of Confirmed to one node by value: a node that is Confirming counts it. The sender and its incarnation are the
-// envelope's. Everything is proved, no public function has a `requires`, and each gives what one definition of the crate
-// `protocol` says.
+// Delivery of Confirmed, decided by what is seen of the node: one that is Confirming counts it. The sender's incarnation is
+// the envelope's. Everything is proved, no public function has a `requires`, and a decision is, for every node that is
+// seen so, the step that one definition of the crate `protocol` says.
 use decision::Decision;
 use decision::refused;
 use item::Attempt;

@@ -1,4 +1,5 @@
-// The engine over one node by value: every event, and a message delivered by its kind. Everything is proved, no public
+// The engine over one node by value: every event, and a message delivered by its kind. A message without rows is decided
+// by what is seen of the node, so that a decision moves no rows; a Table by the whole node. Everything is proved, no public
 // function has a `requires`, and each gives what one definition of protocol's specs/ says.
 use confirming::on_confirmed;
 use decision::Decision;

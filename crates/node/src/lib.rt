@@ -1,7 +1,6 @@
-// One node by value: its rows; with it what is read of its peers, from the crate `peers`, and each
-// kind of change of it, from the crates `change`, `stage_change` and `lifecycle`. Everything is proved, no public function
-// has a `requires`, and each gives what one definition of the crate `protocol` says. A number past the last row reads as
-// zero.
+// One node by value: its rows; with it what is read of its peers, from the crate `peers`, and each kind of change of it,
+// from the crates `change`, `stage_change` and `lifecycle`. Everything is proved, no public function has a `requires`, and
+// each gives what one definition of the crate `protocol` says. A number past the last row reads as zero.
 pub use change::with_counted;
 pub use change::with_row;
 pub use change::with_rows;

@@ -1,6 +1,6 @@
-// Delivery of Confirm to one node by value: a node that is Up answers Confirmed if its row is as the message says. The
-// sender and its incarnation are the envelope's. Everything is proved, no public function has a `requires`, and each
-// gives what one definition of the crate `protocol` says.
+// Delivery of Confirm, decided by what is seen of the node: one that is Up answers Confirmed if its row is as the message
+// says. The sender's incarnation is the envelope's. Everything is proved, no public function has a `requires`, and a
+// decision is, for every node that is seen so, the step that one definition of the crate `protocol` says.
 use decision::Change;
 use decision::Decision;
 use decision::ok;

@@ -1,5 +1,6 @@
-// Delivery of Fetch to one node by value: a node that is Up answers with its rows in a Table. Everything is proved, no
-// public function has a `requires`, and each gives what one definition of protocol's specs/Fetching says.
+// Delivery of Fetch, decided by what is seen of the node: one that is Up answers with its rows in a Table. Everything is
+// proved, no public function has a `requires`, and a decision is, for every node that is seen so, the step that one
+// definition of protocol's specs/Fetching says.
 use decision::Change;
 use decision::Decision;
 use decision::ok;

@@ -1,6 +1,6 @@
-// Delivery of Store to one node by value: a node that is Up stores it and answers Stored. The sender and its
-// incarnation are the envelope's. Everything is proved, no public function has a `requires`, and each gives what one
-// definition of the crate `protocol` says.
+// Delivery of Store, decided by what is seen of the node: one that is Up stores it and answers Stored. The incarnation is
+// the envelope's. Everything is proved, no public function has a `requires`, and a decision is, for every node that is
+// seen so, the step that one definition of the crate `protocol` says.
 use decision::Change;
 use decision::Decision;
 use decision::ok;

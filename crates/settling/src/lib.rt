@@ -1,6 +1,6 @@
-// What a node that has counted one more Confirmed does: at f of them its write has ended, and is settled, or accepted where
-// the node was Returning. Everything is proved, no public function has a `requires`, and each gives what one definition of
-// the crate `protocol` says.
+// What a node that counts one more Confirmed does: at f of them its write has ended, and is settled, or accepted where the
+// node was Returning. Everything is proved, no public function has a `requires`, and a decision is, for every node that is
+// seen so, the step that one definition of the crate `protocol` says.
 use decision::Change;
 use decision::Decision;
 use decision::ok;

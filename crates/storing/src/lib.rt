@@ -1,6 +1,6 @@
-// Delivery of Stored to one node by value: at f of them a node that is Storing asks these f to confirm. The sender and
-// its incarnation are the envelope's. Everything is proved, no public function has a `requires`, and each gives what
-// one definition of the crate `protocol` says.
+// Delivery of Stored, decided by what is seen of the node: at f of them a node that is Storing asks these f to confirm. The
+// sender's incarnation is the envelope's. Everything is proved, no public function has a `requires`, and a decision is,
+// for every node that is seen so, the step that one definition of the crate `protocol` says.
 use decision::Change;
 use decision::Decision;
 use decision::ok;
