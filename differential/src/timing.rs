@@ -34,6 +34,10 @@ impl Samples {
         self.0.push(nanoseconds);
     }
 
+    pub fn extend(&mut self, others: &Samples) {
+        self.0.extend(&others.0);
+    }
+
     /// The fastest, since anything else on the machine only slows it.
     pub fn best(&self) -> f64 {
         self.0.iter().copied().fold(f64::INFINITY, f64::min)
@@ -48,12 +52,15 @@ impl Samples {
     }
 }
 
-/// One measure of both.
+/// One measure of both, and the floor beside them.
 #[derive(Clone, Debug, Default)]
 pub struct Pair {
     pub what: String,
     pub baseline: Samples,
     pub library: Samples,
+    /// One plain pass over a store's bytes, timed as long as the two and in
+    /// turn with them: the processor's own speed changes within a run.
+    pub floor: Samples,
 }
 
 impl Pair {
@@ -61,6 +68,11 @@ impl Pair {
     /// or ahead.
     pub fn ratio(&self) -> f64 {
         self.library.best() / self.baseline.best()
+    }
+
+    /// The library's time in floors of the same measure.
+    pub fn floors(&self) -> f64 {
+        self.library.best() / self.floor.best()
     }
 }
 
@@ -84,7 +96,7 @@ impl Form {
 /// Times both, and the floor beside them.
 pub struct Stopwatch {
     effort: Effort,
-    /// The floor: one plain pass over a store's bytes.
+    /// The floors of all measures.
     pub floor: Samples,
 }
 
@@ -208,10 +220,11 @@ impl Stopwatch {
         for _ in 0..repeats {
             pair.baseline.add(sample(time, steps, || round(false)));
             pair.library.add(sample(time, steps, || round(true)));
-            self.floor.add(sample(time / 10, 1, || {
+            pair.floor.add(sample(time, 1, || {
                 black_box(or_of_words(black_box(&store)));
             }));
         }
+        self.floor.extend(&pair.floor);
         pair
     }
 }

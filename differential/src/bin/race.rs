@@ -113,8 +113,7 @@ impl Measures {
         println!("| measure | baseline | library | ratio | baseline a second | library a second | library in floors |");
         println!("|---|---|---|---|---|---|---|");
         for pair in pairs {
-            let floors = pair.library.best() / self.floor;
-            println!("{} {floors:.2} |", row(pair));
+            println!("{} {:.2} |", row(pair), pair.floors());
         }
         println!();
     }
@@ -156,7 +155,7 @@ impl Measures {
             let messages = delivered as f64 / lines.len() as f64;
             let cost =
                 messages * (mean(&self.numbers.reads[..4]) + mean(&self.numbers.writes[..4]));
-            let goal = 1.5 * self.floor + cost;
+            let goal = 1.5 * row[0].floor.best() + cost;
             let (one, two) = (baseline(&row[0]), library(&row[0]));
             println!(
                 "| {n} | {messages:.2} | {cost:.0} ns | {goal:.0} ns | {one:.0} ns | {two:.0} ns | {:.2} |",
