@@ -1,4 +1,4 @@
-// Delivery of the message in a record. Everything is proved, the function has no `requires`, and it gives what one
+// Delivery of the message in a record. Everything is proved, no function has a `requires`, and each gives what one
 // definition of the crate `outcome` says.
 use admission::first_verdict;
 use carrying::carry_decision;

@@ -1,21 +1,18 @@
 -- What each definition of specs/Act gives in each case, as the code comes to it.
-use Prim.Native.Nat.{ℕ, _*_, _%_, _≤_, _<_}
+use Prim.Native.Nat.{ℕ, _*_, _≤_, _<_}
 use mathlib.Core.Path.{_≡_, refl, sym, ap, _∙_}
 use mathlib.Core.Logic.{_≢_}
-use mathlib.Core.Bool.{Bool, true, false, cond, _&&_}
+use mathlib.Core.Bool.{Bool, true, false, cond}
 use mathlib.Core.List.{List}
-use native.Mathlib.Omega.{arith}
-use borrow.Author.Tests.{lt-ltb, le-ltb, eq-eqb, ne-eqb, eqb-true}
-use lib.Dec.{ltb, eqb}
+use borrow.Author.Tests.{lt-ltb, le-ltb, ne-eqb, eqb-true}
 use lib.ListN.{length}
 use Rattle.item.specs.declared.Item.{Item}
 use Rattle.item.specs.declared.Tag.{Tag}
-use Rattle.item.specs.Maxima.{validSize}
 use Rattle.message.specs.declared.Envelope.{Envelope}
 use Rattle.record.specs.Layout.{recordSize, recordOf, rowsOf}
 use Rattle.record.specs.declared.Reading.{Reading}
 use Rattle.record.specs.declared.Reading.the-variants.{Found, Fault}
-use Rattle.store.specs.Records.{recordCount, rightLength, recordsOf, recordIn, onRecords}
+use Rattle.store.specs.Records.{recordCount, rightLength, recordsOf, onRecords}
 use Rattle.store.specs.Lent.{record-in}
 use Rattle.store.specs.Sound.{messageAt, messageIn}
 use Rattle.store.specs.Change.{putEach, countOutgoing, dropIn}
@@ -33,7 +30,7 @@ use Rattle.protocol.specs.declared.Step.{Step}
 use Rattle.protocol.specs.declared.Verdict.{Verdict}
 use Rattle.protocol.specs.declared.Verdict.the-variants.{Take, Refuse}
 use Rattle.outcome.specs.declared.Seen.{Seen}
-use Rattle.outcome.specs.Act.{Outcome, droppingOf, refuse, sentBy, carriedOut, atNode, dropped, delivered, onSound, firstVerdict, admitted, acted}
+use Rattle.outcome.specs.Act.{droppingOf, refuse, sentBy, carriedOut, atNode, dropped, delivered, onSound, firstVerdict, admitted, acted}
 
 -- where a message is found the store has its length
 pub found-length : (store : List ℕ) (r : ℕ) {e : Envelope} → messageAt store r ≡ Found e

@@ -3,16 +3,14 @@
 use Prim.Native.Nat.{ℕ}
 use mathlib.Core.Bool.{Bool, true, false, cond, _&&_}
 use mathlib.Core.List.{List}
-use lib.Dec.{ltb, eqb}
-use Rattle.item.specs.Maxima.{validSize}
-use Rattle.message.specs.declared.Envelope.{Envelope}
+use lib.Dec.{ltb}
 use Rattle.message.specs.declared.Outgoing.{Outgoing}
 use Rattle.record.specs.Layout.{rowsOf}
 use Rattle.record.specs.declared.Reading.{Reading}
 use Rattle.record.specs.declared.Reading.the-variants.{Found, Fault}
-use Rattle.store.specs.Records.{recordCount, rightLength, recordsOf, recordIn, onRecords, joined}
+use Rattle.store.specs.Records.{rightLength, recordsOf, recordIn, onRecords}
 use Rattle.store.specs.Sound.{survey, messageAt}
-use Rattle.store.specs.Change.{putEach, countOutgoing, dropIn, emptyRecords}
+use Rattle.store.specs.Change.{putEach, countOutgoing, dropIn}
 use Rattle.protocol.specs.Deliver.{deliverStep}
 use Rattle.protocol.specs.Operation.{isRefused, rowItems}
 use Rattle.protocol.specs.Outgoing.{outgoing}
@@ -23,7 +21,7 @@ use Rattle.protocol.specs.declared.Event.{Event}
 use Rattle.protocol.specs.declared.Event.the-variants as event
 use Rattle.protocol.specs.declared.Node.{Node}
 use Rattle.protocol.specs.declared.Refusal.{Refusal}
-use Rattle.protocol.specs.declared.Refusal.the-variants.{GroupSize, StoreLength, Unsound, NoNode, NoRoom, NoMessage}
+use Rattle.protocol.specs.declared.Refusal.the-variants.{StoreLength, Unsound, NoNode, NoRoom, NoMessage}
 use Rattle.protocol.specs.declared.Step.{Step}
 use Rattle.protocol.specs.declared.Verdict.{Verdict}
 use Rattle.protocol.specs.declared.Verdict.the-variants.{Take, Refuse}

@@ -13,11 +13,9 @@ use Rattle.pending.specs.Pending.{noneYet}
 use Rattle.pending.specs.declared.Pending.{Pending}
 use Rattle.progress.specs.Feeding.{pendingOutput, progressOutput, Counted}
 use Rattle.progress.specs.Turn.{sizeAfter}
-use Rattle.progress.specs.declared.Drill.{Drill}
 use Rattle.progress.specs.declared.Progress.{Progress}
 use Rattle.protocol.specs.Operation.{Result}
 use Rattle.protocol.specs.declared.Answer.{Answer}
-use Rattle.protocol.specs.declared.Event.{Event}
 use Rattle.protocol.specs.declared.Event.the-variants as event
 use Rattle.protocol.specs.declared.Node.{Node}
 use Rattle.script.specs.declared.Line.{Line}

@@ -1,6 +1,6 @@
 // What the delivery of a message without rows looks at of its node: a few fields by value in place of the whole node, so
 // that a decision moves no rows. Everything is proved, no public function has a `requires`, and each gives what one
-// definition of specs/ says.
+// definition says: of specs/, or of the crate `protocol` for every node that is seen so.
 use item::Attempt;
 use item::Incarnation;
 use item::Item;
@@ -9,12 +9,12 @@ use peers::count_peers;
 use protocol::Node;
 use protocol::Peer;
 use protocol::Phase;
+ghost use Prim.Native.Nat.{ℕ};
 ghost use mathlib.Core.Path.{_≡_};
 ghost use lib.ListN.{set};
 ghost use Rattle.protocol.specs.Node.{countPeers};
 ghost use Rattle.protocol.specs.Storing.{ownWrite};
 ghost use Rattle.protocol.specs.declared.Node.{Node};
-ghost use Prim.Native.Nat.{ℕ};
 ghost use Rattle.view.specs.View.{somePeer, viewOf, Sees};
 
 // What a node is to one sender.
@@ -51,7 +51,8 @@ fn count_with(peers: [Peer; Node::MAX_ROWS], sender: usize) -> usize
     count_peers(counted)
 }
 
-// What the node is to this sender.
+// What the node is to this sender. Rows and peers are read here and not by `node::row_of` and `peers::peer_of`, which take
+// the whole node or a list by value: the compiler would copy it for each of them. Past the last row they read as there.
 pub fn view_of(node: Node, sender: usize) -> View
     ensures { λ r. ⌜ r ≡ viewOf node sender ⌝ }
 {

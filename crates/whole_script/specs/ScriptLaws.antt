@@ -2,7 +2,7 @@
 use Prim.Native.Nat.{ℕ, zero, suc, _+_, _-_, _*_, _<_, _≤_}
 use native.Mathlib.Omega.{arith}
 use mathlib.Core.Path.{_≡_, refl, sym, ap, _∙_}
-use mathlib.Core.Bool.{Bool, true, false, cond}
+use mathlib.Core.Bool.{Bool, true, false}
 use mathlib.Core.List.{List, [], _∷_, _++_, append-nil}
 use lib.Dec.{eqb}
 use mathlib.Core.Logic.{⊎-elim}
@@ -25,7 +25,7 @@ use Rattle.progress.specs.declared.Drill.{Drill}
 use Rattle.progress.specs.declared.Progress.{Progress}
 use Rattle.script.specs.Line.{lineOf}
 use Rattle.pending.specs.Pending.{noneYet}
-use Rattle.whole_script.specs.Script.{notAll, NoRoom, ScriptRun}
+use Rattle.whole_script.specs.Script.{notAll, ScriptRun}
 
 -- ---- how long the output may be
 

@@ -3,7 +3,7 @@ use Rattle.outcome.proofs.Laws.{sound-write, sound-retry, sound-crash, sound-st
 use Rattle.outcome.specs.Act.{Outcome, handedBack, firstVerdict, admitted, acted}
 use Rattle.protocol.specs.declared.Event.{Event}
 use denote.Ref.{now}
-use mathlib.Core.Path.{_≡_, sym, ap, _∙_}
+use mathlib.Core.Path.{sym, ap, _∙_}
 use borrow.Author.Needs.{needs}
 use Rattle.act.proofs.act.Statement.{statement}
 use Rattle.act.proofs.act.Tie as tie

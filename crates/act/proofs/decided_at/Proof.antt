@@ -2,7 +2,7 @@
 use Rattle.outcome.specs.Act.{Outcome, handedBack, atNode, admitted}
 use Rattle.protocol.specs.declared.Verdict.{Verdict}
 use denote.Ref.{now}
-use mathlib.Core.Path.{_≡_, sym, ap, _∙_}
+use mathlib.Core.Path.{sym, ap, _∙_}
 use borrow.Author.Needs.{needs}
 use Rattle.act.proofs.decided_at.Statement.{statement}
 use Rattle.act.proofs.decided_at.Tie as tie

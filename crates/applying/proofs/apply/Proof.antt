@@ -2,7 +2,7 @@
 -- table is left as it is; otherwise both are given for good to `act_at_place`.
 -- All that the proof knows of the callees is that they meet their contracts.
 -- Assumes nothing.
-use mathlib.Core.Path.{_≡_, refl, _∙_, ap, subst}
+use mathlib.Core.Path.{_≡_, refl, ap}
 use mathlib.Core.Bool.{Bool}
 use Prim.Native.Nat.{ℕ, _<_, _^_}
 use mathlib.Core.List.{List, [], _∷_}
@@ -13,7 +13,7 @@ use mir.Syntax.{named, w64, tyInt, tyBool}
 use mir.Val.{Val, vint, vbool}
 use sound.Laws.{∗emp}
 use base.Logic.{SProp, ent, sep, emp, via, fst∗, id⊢, exE, snd∗}
-use base.Fml.{Lft, GName, Share, Fml, ftrue, fat, flft, fres}
+use base.Fml.{Lft, GName, Share, ftrue, fat, flft, fres}
 use prog.Memory.{Memory}
 use prog.Routine.{Routine}
 use prog.Wp.{Heap, Calls, Loops, WpFn, Tables}
@@ -24,7 +24,7 @@ use types.Kit.{Given, ‵, raw, some, later, _⊛_, ⋆, atRet, _$_, _∵_, !, q
 use types.Part.{agg, whole, sub, look-in}
 use types.Run.{look, init, forget, stop, hop, fld, from, load, addr, of-opd, and-then, no-more, assigns, land, first, branches, skips, returns, returns-within, exec, enter, alloc1, alloc0, params1, pass1, pass0, free1, free0}
 use sound.WpLaws.{FmC, fmOf, WpFn-mono}
-use denote.RattleType.{RattleType, owns}
+use denote.RattleType.{owns}
 use denote.Laws.{Is, shows}
 use denote.Plain.{bool-makes, bool-vals, bool-tells, uint-makes}
 use denote.Builtin.{u8, u64, bool}

@@ -3,11 +3,10 @@ use Rattle.outcome.proofs.Laws.{carried-refused, carried-full, carried-sent}
 use Rattle.node.proofs.Answered.{answered}
 use Rattle.decision.specs.Decision.{stepBy}
 use Rattle.protocol.specs.declared.Node.{Node}
-use Prim.Native.Nat.{ℕ}
 use native.Mathlib.Omega.{arith}
 use Rattle.outcome.specs.Act.{Outcome, handedBack}
 use denote.Ref.{now}
-use mathlib.Core.Path.{_≡_, sym, ap, _∙_}
+use mathlib.Core.Path.{sym, ap, _∙_}
 use borrow.Author.Needs.{needs}
 use Rattle.carrying.proofs.carry_decision.Statement.{statement}
 use Rattle.carrying.proofs.carry_decision.Tie as tie

@@ -7,7 +7,7 @@ use Rattle.protocol.specs.Fetching.{onTable}
 use Rattle.decision.specs.Decision.{stepBy}
 use Rattle.engine.specs.Decided.{decidedStep}
 use denote.Ref.{now}
-use mathlib.Core.Path.{_≡_, refl, sym, ap, _∙_}
+use mathlib.Core.Path.{refl, sym, ap, _∙_}
 use borrow.Author.Needs.{needs}
 use Rattle.delivering.proofs.deliver_message.Statement.{statement}
 use Rattle.delivering.proofs.deliver_message.Tie as tie

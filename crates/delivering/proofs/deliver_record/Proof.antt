@@ -3,7 +3,7 @@ use Rattle.outcome.proofs.Laws.{acted-refused, acted-taken, sound-deliver}
 use Rattle.outcome.specs.Act.{Outcome, handedBack}
 use Rattle.protocol.specs.declared.Event.the-variants as event
 use denote.Ref.{now}
-use mathlib.Core.Path.{_≡_, refl, sym, ap, _∙_}
+use mathlib.Core.Path.{refl, sym, ap, _∙_}
 use borrow.Author.Needs.{needs}
 use Rattle.delivering.proofs.deliver_record.Statement.{statement}
 use Rattle.delivering.proofs.deliver_record.Tie as tie

@@ -3,7 +3,7 @@ use Rattle.protocol.specs.Fetching.{onTable}
 use Rattle.protocol.specs.declared.Step.{Step}
 use Rattle.outcome.specs.Act.{handedBack, carriedOut}
 use denote.Ref.{now}
-use mathlib.Core.Path.{_≡_, ap, _∙_}
+use mathlib.Core.Path.{ap, _∙_}
 use borrow.Author.Needs.{needs}
 use Rattle.delivering.proofs.deliver_table.Statement.{statement}
 use Rattle.delivering.proofs.deliver_table.Tie as tie

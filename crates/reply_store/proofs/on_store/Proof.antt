@@ -1,7 +1,7 @@
 -- `reply_store::on_store` meets its contract: a refusal where the node is not Up, and the reply by the verdict of the sender's row.
 use Rattle.item.specs.Tests.{refuted, granted}
 use Rattle.decision.specs.Decision.{changed, stepBy}
-use Rattle.protocol.specs.Answer.{ok, refused}
+use Rattle.protocol.specs.Answer.{refused}
 use Rattle.protocol.specs.Storing.{onStore}
 use Rattle.view.proofs.Seen.{phase-seen, row-seen}
 use Rattle.reply_store.proofs.on_store.Statement.{statement}

@@ -5,7 +5,6 @@ use Rattle.decision.specs.Decision.{changed, stepBy}
 use Rattle.protocol.specs.Answer.{refused}
 use Rattle.protocol.specs.Storing.{onStored}
 use Rattle.view.proofs.Seen.{phase-seen, counted-seen}
-use mathlib.Core.Path.{sym}
 use Rattle.storing.proofs.on_stored.Statement.{statement}
 use Rattle.storing.proofs.on_stored.Tie as tie
 

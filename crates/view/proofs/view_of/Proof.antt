@@ -7,7 +7,7 @@ use Rattle.view.specs.View.{viewOf}
 use native.Mathlib.Omega.{arith}
 use lib.ListN.{length}
 use mathlib.Core.Logic.{⊎-elim}
-use mathlib.Core.Path.{_≡_, refl, _∙_, sym}
+use mathlib.Core.Path.{_≡_, _∙_, sym}
 use borrow.Author.Needs.{needs}
 use Rattle.view.proofs.view_of.Statement.{statement}
 use Rattle.view.proofs.view_of.Tie as tie
