@@ -15,19 +15,20 @@ use Rattle.item.specs.Maxima.{maxNodes, validSize}
 use Rattle.item.specs.Tests.{by-cond}
 use Rattle.layout.specs.Layout.{rowsOf}
 use Rattle.message.specs.declared.Envelope.{Envelope}
-use Rattle.record.specs.declared.Reading.{Reading}
-use Rattle.record.specs.declared.Reading.the-variants.{Found, Fault}
+use Rattle.message.specs.declared.Reading.{Reading}
+use Rattle.message.specs.declared.Reading.the-variants.{Found, Fault}
 use Rattle.store.specs.Head.{groupSize}
 use Rattle.store.specs.Records.{rightLength, recordsOf, recordIn}
 use Rattle.store.specs.Sound.{messageIn}
 use Rattle.protocol.specs.Deliver.{deliverStep}
-use Rattle.protocol.specs.Operation.{Result, refuse, isRefused, carriedOut, atNode, dropped, delivered, onSound, setUp}
+use Rattle.operations.specs.Operation.{Result, refuse, carriedOut, atNode, dropped, delivered, onSound, setUp}
+use Rattle.protocol.specs.Answer.{isRefused}
 use Rattle.protocol.specs.Table.{nodeAt}
 use Rattle.protocol.specs.Write.{writeStep, retryStep, crashStep, startStep}
 use Rattle.protocol.specs.declared.Event.the-variants as event
 use Rattle.protocol.specs.declared.Node.{Node}
 use Rattle.protocol.specs.declared.Step.{Step}
-use Rattle.protocol.proofs.Inbox.{no-fault}
+use Rattle.operations.proofs.Inbox.{no-fault}
 use Rattle.protocol.proofs.InView.{size-fits}
 use Rattle.protocol.proofs.Shapes.{deliver-shaped}
 use Rattle.node_laws.specs.Decision.{Write, Retry, Start, decide, MayCome}

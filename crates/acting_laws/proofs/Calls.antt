@@ -7,8 +7,8 @@ use Rattle.counters.specs.Counter.{attemptAtLargest, incarnationAtLargest}
 use Rattle.item.specs.Maxima.{maxNodes}
 use Rattle.item.specs.Tests.{by-cond}
 use Rattle.item.specs.declared.Tag.{Tag}
-use Rattle.protocol.specs.Answer.{ok}
-use Rattle.protocol.specs.Operation.{isRefused, carriedOut}
+use Rattle.protocol.specs.Answer.{ok, isRefused}
+use Rattle.operations.specs.Operation.{carriedOut}
 use Rattle.protocol.specs.Phase.{isDown, isIdle, isFetching, isUpIdle}
 use Rattle.protocol.specs.Sound.{soundNode}
 use Rattle.protocol.specs.Write.{sendStore, sendFetch, writeAtLargest, nothingToRetry, writeStep, retryStep, crashStep, startStep}

@@ -12,11 +12,11 @@ use Rattle.counters.specs.declared.Incarnation.{Incarnation}
 use Rattle.item.specs.declared.Item.{Item}
 use Rattle.message.specs.declared.Message.{Message}
 use Rattle.message.specs.declared.Message.the-variants as message
-use Rattle.protocol.specs.Answer.{ok, refused}
+use Rattle.protocol.specs.Answer.{ok, refused, isRefused}
 use Rattle.protocol.specs.Deliver.{onMessage}
 use Rattle.protocol.specs.Fetching.{onFetch, withTable, hasConflict, stopped, nodeRecover, tableCounted, onTable}
 use Rattle.protocol.specs.Node.{half, rowOf, withCounted, confirmingBegun, belowHalf, atMostHalf, ownIncarnation}
-use Rattle.protocol.specs.Operation.{isRefused, carriedOut}
+use Rattle.operations.specs.Operation.{carriedOut}
 use Rattle.protocol.specs.Phase.{isFetching, isUp, isStoring, isConfirming, isReturning, atStage}
 use Rattle.protocol.specs.Sound.{soundNode}
 use Rattle.protocol.specs.Storing.{storeVerdict, replyStore, onStore, ownWrite, isCounted, sendConfirm, storedCounted, onStored, storedUnder, onConfirm, askedUnder, endAnswer, storeSuccess, confirmedCounted, onConfirmed}

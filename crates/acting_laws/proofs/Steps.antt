@@ -11,9 +11,9 @@ use Rattle.item.specs.Tests.{by-cond, and-right}
 use Rattle.message.specs.declared.Message.{Message}
 use Rattle.store.specs.Change.{countOutgoing}
 use Rattle.store.specs.Sound.{freeCount}
-use Rattle.protocol.specs.Answer.{ok, refused}
+use Rattle.protocol.specs.Answer.{ok, refused, isRefused}
 use Rattle.protocol.specs.Node.{half, countPeers, confirmingBegun}
-use Rattle.protocol.specs.Operation.{Result, isRefused, refuse, sentBy, carriedOut}
+use Rattle.operations.specs.Operation.{Result, refuse, sentBy, carriedOut}
 use Rattle.protocol.specs.Outgoing.{outgoing}
 use Rattle.protocol.specs.Phase.{isStoring, atStage}
 use Rattle.protocol.specs.Sound.{stageCounts, phaseCounts, peersSound, soundNode}

@@ -15,13 +15,14 @@ use Rattle.item.specs.declared.Row.{Row}
 use Rattle.layout.specs.Layout.{rowsOf}
 use Rattle.message.specs.declared.Message.{Message}
 use Rattle.message.specs.declared.Message.the-variants as message
-use Rattle.record.specs.declared.Reading.{Reading}
-use Rattle.record.specs.declared.Reading.the-variants.{Found, Fault}
+use Rattle.message.specs.declared.Reading.{Reading}
+use Rattle.message.specs.declared.Reading.the-variants.{Found, Fault}
 use Rattle.store.specs.Records.{recordIn}
 use Rattle.store.specs.Sound.{freeCount, messageIn}
 use Rattle.protocol.specs.Fetching.{hasConflict, withTable}
 use Rattle.protocol.specs.Node.{half, rowOf, withCounted, belowHalf, atMostHalf, ownIncarnation}
-use Rattle.protocol.specs.Operation.{Result, isRefused}
+use Rattle.operations.specs.Operation.{Result}
+use Rattle.protocol.specs.Answer.{isRefused}
 use Rattle.protocol.specs.Phase.{isDown, isFetching, isIdle, isUpIdle, isUp, isStoring, isConfirming}
 use Rattle.protocol.specs.Storing.{ownWrite, isCounted, storedUnder, askedUnder}
 use Rattle.protocol.specs.Table.{nodeAt}

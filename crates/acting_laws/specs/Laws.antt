@@ -8,7 +8,7 @@ use lib.ListN.{length}
 use Rattle.item.specs.Maxima.{validSize}
 use Rattle.item.specs.declared.Tag.{Tag}
 use Rattle.store.specs.Records.{rightLength, recordsOf}
-use Rattle.protocol.specs.Operation.{setUp, perform}
+use Rattle.operations.specs.Operation.{setUp, perform}
 use Rattle.protocol.specs.declared.Event.{Event}
 use Rattle.protocol.specs.declared.Event.the-variants as event
 use Rattle.protocol.specs.declared.Node.{Node}

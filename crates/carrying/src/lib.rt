@@ -10,7 +10,7 @@ use protocol::Refusal;
 use protocol::Step;
 use sending::count_sent;
 ghost use mathlib.Core.Path.{_≡_};
-ghost use Rattle.protocol.specs.Operation.{isRefused};
+ghost use Rattle.protocol.specs.Answer.{isRefused};
 ghost use Rattle.decision.specs.Decision.{stepBy};
 ghost use Rattle.outcome.specs.Act.{handedBack, carriedOut};
 

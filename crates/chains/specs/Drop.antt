@@ -8,7 +8,7 @@ use mathlib.Core.List.{List, _∷_, _++_}
 use native.Mathlib.Omega.{arith}
 use lib.ListN.{length, set}
 use Rattle.item.specs.Maxima.{validSize}
-use Rattle.record.specs.declared.Reading.the-variants.{Fault}
+use Rattle.message.specs.declared.Reading.the-variants.{Fault}
 use Rattle.record.specs.Layout.{recordSize, nextOf, rowsOf}
 use Rattle.record.specs.Record.{readRecord, withNext, noRecord, zeroAfterNext}
 use Rattle.store.specs.Records.{recordIn}

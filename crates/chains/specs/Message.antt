@@ -14,8 +14,8 @@ use Rattle.item.specs.Tests.{by-cond, and-left, and-right, and-both}
 use Rattle.endian.specs.PartLaws.{by-order}
 use Rattle.endian.specs.Zero.{allZero}
 use Rattle.message.specs.declared.Envelope.{Envelope}
-use Rattle.record.specs.declared.Reading.{Reading}
-use Rattle.record.specs.declared.Reading.the-variants.{Found, Fault}
+use Rattle.message.specs.declared.Reading.{Reading}
+use Rattle.message.specs.declared.Reading.the-variants.{Found, Fault}
 use Rattle.record.specs.Layout.{recordSize, kindAt}
 use Rattle.record.specs.Record.{readRecord, zeroAfterNext}
 use Rattle.store.specs.Records.{recordIn}

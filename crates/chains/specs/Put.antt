@@ -11,7 +11,7 @@ use lib.ListN.{length}
 use Rattle.item.specs.Maxima.{validSize}
 use Rattle.item.specs.declared.Item.{Item}
 use Rattle.message.specs.declared.Envelope.{Envelope}
-use Rattle.record.specs.declared.Reading.the-variants.{Found}
+use Rattle.message.specs.declared.Reading.the-variants.{Found}
 use Rattle.record.specs.Layout.{recordSize, nextOf, rowsOf}
 use Rattle.record.specs.Record.{readRecord, recordBytes}
 use Rattle.store.specs.Records.{recordIn}

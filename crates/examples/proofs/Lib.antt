@@ -1,5 +1,8 @@
+pub mod Fits
+pub mod Contents
+pub mod Trace
+pub mod Followed
 pub mod Opened
-pub mod Point
-pub mod Drill
-pub mod Told
-pub mod Holding
+pub mod SetUp
+pub mod Lettered
+pub mod Sixteen

@@ -13,9 +13,8 @@ use Rattle.store.specs.Records.{recordCount, rightLength, joined}
 use Rattle.store.specs.Change.{putIn, emptyRecords}
 use Rattle.protocol.specs.Table.{freshTable}
 use Rattle.protocol.specs.declared.Event.{Event}
-use Rattle.protocol.specs.declared.Event.the-variants as event
 use Rattle.protocol.specs.declared.Node.{Node}
-use Rattle.examples.specs.Said.{Said, ok, stops-at, gives, answers, drill}
+use Rattle.examples.specs.Said.{Said, ok, stops-at, gives, answers, drill, w, c, s, d}
 
 pub data Letter : Type 0 where
   A : Letter
@@ -37,24 +36,6 @@ pub record Example : Type 0 where
 
 abbrev example : Letter → List Said → List Said → Example
 example letter given stated = record { letter = letter; given = given; stated = stated }
-
--- ---- the drill's lines
-
--- `w node tag`
-abbrev w : ℕ → ℕ → Event
-w node tag = event.Write node (record { 0 = tag })
-
--- `c node`
-abbrev c : ℕ → Event
-c node = event.Crash node
-
--- `s node`
-abbrev s : ℕ → Event
-s node = event.Start node
-
--- `d record`
-abbrev d : ℕ → Event
-d record-number = event.Deliver record-number
 
 -- ---- messages that no drill of a few lines brings about
 

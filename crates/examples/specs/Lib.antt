@@ -1,2 +1,3 @@
 pub mod Said
 pub mod Lettered
+pub mod Sixteen

@@ -1,13 +1,35 @@
--- What document 01 says of an answer: the word and its numbers, and of a refusal the number.
+-- The drill's lines and answers in document 01's words: a letter and its numbers for an event, a word and its numbers for an
+-- answer, and of a refusal the number.
 use Prim.Native.Nat.{ℕ}
 use mathlib.Core.List.{List, _∷_, map}
 use Rattle.protocol.specs.Answer.{refusalNumber}
-use Rattle.protocol.specs.Operation.{setUp}
-use Rattle.protocol.specs.Run.{calls}
+use Rattle.operations.specs.Operation.{setUp}
+use Rattle.operations.specs.Run.{calls}
 use Rattle.protocol.specs.declared.Answer.{Answer}
 use Rattle.protocol.specs.declared.Answer.the-variants as answer
 use Rattle.protocol.specs.declared.Event.{Event}
+use Rattle.protocol.specs.declared.Event.the-variants as event
 use Rattle.protocol.specs.declared.Node.{Node}
+
+-- ---- lines
+
+-- `w node tag`
+abbrev pub w : ℕ → ℕ → Event
+w node tag = event.Write node (record { 0 = tag })
+
+-- `c node`
+abbrev pub c : ℕ → Event
+c node = event.Crash node
+
+-- `s node`
+abbrev pub s : ℕ → Event
+s node = event.Start node
+
+-- `d record`
+abbrev pub d : ℕ → Event
+d record-number = event.Deliver record-number
+
+-- ---- answers
 
 pub data Said : Type 0 where
   ok : Said

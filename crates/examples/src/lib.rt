@@ -1,8 +1,15 @@
-// The ten lettered examples of document 01 ("Checked examples"), shown from the definitions of the protocol: one list,
-// one sentence. Specs and proofs only.
+// Examples of document 01 shown from the definitions of the protocol: the ten lettered ones ("Checked examples"), one list
+// and one sentence, and the sixteen lines of its drill program. Specs and proofs only.
 ghost use Rattle.examples.specs.Lettered.{LetteredExamples};
+ghost use Rattle.examples.specs.Sixteen.{SixteenLines};
 
 // Every example of the list answers as document 01 states, on any table of n nodes and any store of 65,280 bytes.
 pub fn lettered_examples()
     ensures { λ r. ⌜ LetteredExamples ⌝ }
+{}
+
+// The sixteen lines of document 01's drill give the sixteen answers that it states, on any table of three nodes and any
+// store of 65,280 bytes.
+pub fn sixteen_lines()
+    ensures { λ r. ⌜ SixteenLines ⌝ }
 {}

@@ -6,15 +6,17 @@ use mathlib.Core.List.{List}
 use lib.Dec.{ltb}
 use lib.ListN.{set}
 use Rattle.message.specs.declared.Outgoing.{Outgoing}
-use Rattle.record.specs.declared.Reading.{Reading}
-use Rattle.record.specs.declared.Reading.the-variants.{Found, Fault}
+use Rattle.message.specs.declared.Reading.{Reading}
+use Rattle.message.specs.declared.Reading.the-variants.{Found, Fault}
 use Rattle.record.specs.Layout.{rowsOf}
 use Rattle.store.specs.Change.{putEach, countOutgoing, dropIn}
 use Rattle.store.specs.Head.{groupSize}
 use Rattle.store.specs.Records.{rightLength, recordsOf, recordIn, joined, onRecords}
 use Rattle.store.specs.Sound.{soundRecords, freeCount, messageIn, messageAt, surveyOf, survey}
-use Rattle.protocol.specs.Operation as whole
-use Rattle.protocol.specs.Operation.{Result, isRefused, rowItems}
+use Rattle.operations.specs.Operation as whole
+use Rattle.operations.specs.Operation.{Result}
+use Rattle.protocol.specs.Answer.{isRefused}
+use Rattle.protocol.specs.Node.{rowItems}
 use Rattle.protocol.specs.Outgoing.{outgoing}
 use Rattle.protocol.specs.Table.{nodeAt, soundTable}
 use Rattle.protocol.specs.Deliver.{deliverStep}

@@ -6,7 +6,7 @@ use protocol::Answer;
 use protocol::Event;
 use protocol::Node;
 ghost use mathlib.Core.Path.{_≡_};
-ghost use Rattle.protocol.specs.Operation as operation;
+ghost use Rattle.operations.specs.Operation as operation;
 
 // An event at its node.
 pub fn perform(table: &mut [Node], store: &mut [u8], event: Event) -> Answer

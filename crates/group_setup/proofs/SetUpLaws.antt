@@ -14,8 +14,8 @@ use Rattle.record.specs.Layout.{recordSize}
 use Rattle.store.specs.Records.{recordCount, rightLength, joined, onRecords}
 use Rattle.store.specs.Lent.{unchanged}
 use Rattle.store.specs.Change.{emptyRecords, setUp}
-use Rattle.protocol.specs.Operation as whole
-use Rattle.protocol.specs.Operation.{Result}
+use Rattle.operations.specs.Operation as whole
+use Rattle.operations.specs.Operation.{Result}
 use Rattle.protocol.specs.Table.{freshTable}
 use Rattle.protocol.specs.declared.Answer.{Answer}
 use Rattle.protocol.specs.declared.Answer.the-variants as answer

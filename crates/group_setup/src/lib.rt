@@ -4,7 +4,7 @@ use protocol::Answer;
 use protocol::Node;
 use protocol::Refusal;
 ghost use mathlib.Core.Path.{_≡_};
-ghost use Rattle.protocol.specs.Operation as operation;
+ghost use Rattle.operations.specs.Operation as operation;
 ghost use Rattle.group_setup.specs.SetUp.{notPrepared, prepared, preparedStore};
 
 // What set-up answers, and how many nodes it sets up: all of the group, or none where it is refused.

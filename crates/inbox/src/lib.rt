@@ -1,6 +1,6 @@
 // The message in a record of the store. Everything is proved, no public function has a `requires`, and each gives what one
 // definition of the crate `store` says.
-use record::Reading;
+use message::Reading;
 ghost use mathlib.Core.Path.{_≡_};
 ghost use Rattle.store.specs.Sound.{messageAt};
 

@@ -7,8 +7,7 @@ use mathlib.Core.List.{List, [], _++_, append-nil}
 use lib.Dec.{ltb}
 use borrow.Author.Tests.{ltb-true, ltb-false}
 use Rattle.chains.specs.Empty.{set-up-done}
-use Rattle.chains.specs.Held.{heldOn}
-use Rattle.chains.specs.Held.{records-counted as counted-of}
+use Rattle.chains.specs.Held.{heldOn, records-counted as counted-of}
 use Rattle.chains.specs.Leads.{freeList, inboxList}
 use Rattle.chains.specs.Message.{message-inbox}
 use Rattle.chains.specs.Sound.{Sound, store-sound}
@@ -18,16 +17,18 @@ use Rattle.item.specs.declared.Item.{Item}
 use Rattle.layout.specs.Layout.{rowsOf, heldRows}
 use Rattle.message.specs.declared.Outgoing.{Outgoing}
 use Rattle.record.specs.Record.{recordBytes}
-use Rattle.record.specs.declared.Reading.{Reading}
-use Rattle.record.specs.declared.Reading.the-variants.{Found, Fault}
+use Rattle.message.specs.declared.Reading.{Reading}
+use Rattle.message.specs.declared.Reading.the-variants.{Found, Fault}
 use Rattle.store.specs.Change.{countOutgoing, dropIn, emptyRecords}
 use Rattle.store.specs.Head.{groupSize}
 use Rattle.store.specs.Joined.{records-count, records-joined}
 use Rattle.store.specs.Locality.{drop-local, length-empty, empty-sized}
 use Rattle.store.specs.Records.{recordCount, recordsOf, recordIn, joined}
 use Rattle.store.specs.Sound.{freeCount, messageIn}
-use Rattle.protocol.specs.Claim.{TagFits}
-use Rattle.protocol.specs.Operation.{Result, refuse, isRefused, rowItems, sentBy, carriedOut, atNode, dropped, delivered, onSound, setUp}
+use Rattle.operations.specs.Claim.{TagFits}
+use Rattle.operations.specs.Operation.{Result, refuse, sentBy, carriedOut, atNode, dropped, delivered, onSound, setUp}
+use Rattle.protocol.specs.Answer.{isRefused}
+use Rattle.protocol.specs.Node.{rowItems}
 use Rattle.protocol.specs.Outgoing.{outgoing}
 use Rattle.protocol.specs.Table.{nodeAt}
 use Rattle.protocol.specs.Write.{writeStep, retryStep, crashStep, startStep}
@@ -35,9 +36,9 @@ use Rattle.protocol.specs.declared.Event.{Event}
 use Rattle.protocol.specs.declared.Event.the-variants as event
 use Rattle.protocol.specs.declared.Node.{Node}
 use Rattle.protocol.specs.declared.Step.{Step}
-use Rattle.protocol.proofs.Inbox.{message-read}
-use Rattle.protocol.proofs.Stands.{store-after}
-use Rattle.protocol.proofs.Start.{SetUpTo, set-up-is}
+use Rattle.operations.proofs.Inbox.{message-read}
+use Rattle.operations.proofs.Represents.{store-after}
+use Rattle.operations.proofs.Start.{SetUpTo, set-up-is}
 use Rattle.run_laws.specs.Laws.{SoundGroup}
 use Rattle.run_laws.proofs.Keeps.{Decided, group-store, group-records, store-of, all-for-group, all-read, records-are, write-decided, retry-decided, crash-decided, start-decided, deliver-decided, performed-is}
 use Rattle.acting_laws.specs.Acting.{acted}

@@ -26,7 +26,7 @@ use Rattle.store.specs.Change.{putIn, putEach, countOutgoing, dropIn}
 use Rattle.store.specs.Head.{firstFree, groupSize}
 use Rattle.store.specs.Records.{recordIn}
 use Rattle.store.specs.Sound.{freeCount, messageIn}
-use Rattle.protocol.proofs.Inbox.{no-fault}
+use Rattle.operations.proofs.Inbox.{no-fault}
 use Rattle.inbox_laws.specs.Inbox.{entryIn, entriesIn, inbox}
 use Rattle.inbox_laws.specs.Sent.{entryOf, entriesTo}
 

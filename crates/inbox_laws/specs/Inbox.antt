@@ -4,7 +4,7 @@ use mathlib.Core.List.{List, map}
 use Rattle.chains.specs.Leads.{inboxList}
 use Rattle.item.specs.declared.Item.{Item}
 use Rattle.layout.specs.Layout.{rowsOf}
-use Rattle.record.specs.declared.Reading.{Reading}
+use Rattle.message.specs.declared.Reading.{Reading}
 use Rattle.store.specs.Records.{recordIn}
 use Rattle.store.specs.Sound.{messageIn}
 

@@ -11,8 +11,8 @@ use Rattle.chains.specs.Leads.{freeList, inboxList}
 use Rattle.store.specs.Change.{countOutgoing}
 use Rattle.store.specs.Records.{recordCount, recordsOf}
 use Rattle.store.specs.Sound.{freeCount}
-use Rattle.protocol.specs.Claim.{TagFits}
-use Rattle.protocol.specs.Operation.{setUp, perform}
+use Rattle.operations.specs.Claim.{TagFits}
+use Rattle.operations.specs.Operation.{setUp, perform}
 use Rattle.protocol.specs.declared.Answer.the-variants as answer
 use Rattle.protocol.specs.declared.Event.{Event}
 use Rattle.protocol.specs.declared.Node.{Node}

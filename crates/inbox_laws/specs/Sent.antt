@@ -11,12 +11,12 @@ use Rattle.item.specs.declared.Item.{Item}
 use Rattle.layout.specs.Layout.{rowsOf, heldRows}
 use Rattle.message.specs.declared.Envelope.{Envelope}
 use Rattle.message.specs.declared.Outgoing.{Outgoing}
-use Rattle.record.specs.declared.Reading.{Reading}
-use Rattle.record.specs.declared.Reading.the-variants.{Found, Fault}
+use Rattle.message.specs.declared.Reading.{Reading}
+use Rattle.message.specs.declared.Reading.the-variants.{Found, Fault}
 use Rattle.store.specs.Records.{recordIn}
 use Rattle.store.specs.Sound.{messageIn}
 use Rattle.protocol.specs.Deliver.{deliverStep}
-use Rattle.protocol.specs.Operation.{rowItems}
+use Rattle.protocol.specs.Node.{rowItems}
 use Rattle.protocol.specs.Outgoing.{outgoing}
 use Rattle.protocol.specs.Table.{nodeAt}
 use Rattle.protocol.specs.Write.{writeStep, retryStep, crashStep, startStep}

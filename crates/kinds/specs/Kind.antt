@@ -1,9 +1,8 @@
 -- The six kinds of message (document 01: "1 Store, 2 Stored, 3 Confirm, 4 Confirmed, 5 Fetch, 6 Table") and which fields
 -- of a record each uses: "'Other' is .. in Store and Fetch 0"; "Fetch and Table have attempt, index and tag 0".
-use Prim.Native.Nat.{ℕ, min}
+use Prim.Native.Nat.{ℕ}
 use mathlib.Core.Bool.{Bool, _&&_, cond}
 use lib.Dec.{eqb}
-use Rattle.item.specs.Maxima.{maxNodes}
 use Rattle.counters.specs.Counter.{sameIncarnation, sameAttempt}
 use Rattle.item.specs.Item.{zeroItem, sameItem}
 use Rattle.counters.specs.declared.Incarnation.{Incarnation}
@@ -12,6 +11,7 @@ use Rattle.item.specs.declared.Item.{Item}
 use Rattle.message.specs.declared.Message.{Message}
 use Rattle.message.specs.declared.Message.the-variants.{Store, Stored, Confirm, Confirmed, Fetch, Table}
 use Rattle.message.specs.declared.Envelope.{Envelope}
+unfoldable pub use Rattle.message.specs.Rows.{rowsHeld}
 use Rattle.kinds.specs.declared.Fields.{Fields}
 use Rattle.kinds.specs.declared.Known.{Known}
 use Rattle.kinds.specs.declared.Known.the-variants as known
@@ -88,15 +88,6 @@ filled e kind other attempt item =
 
 unfoldable pub fieldsOf : Envelope → Fields
 fieldsOf e = filled e (kindOf (e .message)) (otherOf (e .message)) (attemptOf (e .message)) (itemOf (e .message))
-
--- "Only Table has rows: n of them"
-unfoldable pub rowsHeld : Message → ℕ → ℕ
-rowsHeld (Store attempt item) n = 0
-rowsHeld (Stored other attempt item) n = 0
-rowsHeld (Confirm other attempt item) n = 0
-rowsHeld (Confirmed other attempt item) n = 0
-rowsHeld Fetch n = 0
-rowsHeld (Table other) n = min n maxNodes
 
 -- neither attempt nor item
 unfoldable pub noWrite : Attempt → Item → Bool

@@ -4,12 +4,10 @@
 --    16-23 index; 24-31 tag; 32-271 fifteen rows of index and tag"
 use Prim.Native.Nat.{ℕ, zero, suc, _+_, _-_, _*_, _/_, _%_}
 use mathlib.Core.List.{List, [], _∷_, _++_}
-use lib.ListN.{getD, take}
+use lib.ListN.{getD}
 use Rattle.item.specs.Maxima.{maxNodes, tagSize}
-use Rattle.item.specs.Item.{zeroItem}
 use Rattle.item.specs.declared.Item.{Item}
-use Rattle.message.specs.declared.Message.{Message}
-use Rattle.kinds.specs.Kind.{rowsHeld}
+unfoldable pub use Rattle.message.specs.Rows.{padded, heldRows}
 use Rattle.endian.specs.Number.{bytes, numberAt}
 use Rattle.kinds.specs.declared.Fields.{Fields}
 
@@ -75,12 +73,6 @@ rowsBytes (i ∷ items) = itemBytes i ++ rowsBytes items
 abbrev pub layoutBytes : ℕ → Fields → List Item → List ℕ
 layoutBytes next f rows = bytes 2 next ++ (fieldBytes f ++ rowsBytes rows)
 
--- m items: those of the list, and then zero items
-unfoldable pub padded : ℕ → List Item → List Item
-padded zero items = []
-padded (suc m) [] = zeroItem ∷ padded m []
-padded (suc m) (i ∷ items) = i ∷ padded m items
-
 -- ---- the reader's side: what stands at each place. Outside the record every number is 0.
 
 unfoldable pub itemIn : List ℕ → ℕ → Item
@@ -110,7 +102,3 @@ rowsOf r = itemsIn maxNodes r rowsAt
 -- "Records are chained by a next index"
 unfoldable pub nextOf : List ℕ → ℕ
 nextOf r = numberAt 2 r nextAt
-
--- the rows that a record of this message holds: "n of them, then zeros"
-unfoldable pub heldRows : Message → ℕ → List Item → List Item
-heldRows m n rows = padded maxNodes (take (rowsHeld m n) rows)

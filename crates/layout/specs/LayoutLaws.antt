@@ -15,6 +15,7 @@ use Rattle.endian.specs.PartLaws.{with-joined, sets-is}
 use Rattle.endian.specs.Number.{bytes, withNumber}
 use Rattle.endian.specs.NumberLaws.{length-bytes}
 use Rattle.kinds.specs.declared.Fields.{Fields}
+pub use Rattle.message.specs.RowsLaws.{length-padded, getD-padded}
 use Rattle.layout.specs.Layout.{recordSize, nextAt, kindAt, addressAt, incarnationAt, otherAt, attemptAt, itemAt, rowsAt, indexSize, rowSize, fieldsSize, itemBytes, addressByte, fieldBytes, rowsBytes, padded, itemIn, itemsIn, layoutBytes}
 
 -- the length of an array of structs
@@ -37,12 +38,6 @@ pub length-rows : (items : List Item) → length (rowsBytes items) ≡ length it
 unfolding rowsBytes
 length-rows [] = refl
 length-rows (i ∷ items) = simp (length-append, length-item, length-rows items, suc-mul) (omega arith)
-
-pub length-padded : (m : ℕ) (items : List Item) → length (padded m items) ≡ m
-unfolding padded
-length-padded zero items = refl
-length-padded (suc m) [] = ap suc (length-padded m [])
-length-padded (suc m) (i ∷ items) = ap suc (length-padded m items)
 
 -- ---- the writer
 
@@ -124,14 +119,6 @@ padded-more zero [] h = refl
 padded-more zero (i ∷ items) h = absurd (not-suc-le-zero h)
 padded-more (suc j) [] h = ap (λ (l : List Item). zeroItem ∷ l) (padded-more j [] (omega arith))
 padded-more (suc j) (i ∷ items) h = ap (λ (l : List Item). i ∷ l) (padded-more j items (le-of-suc-le-suc h))
-
-pub getD-padded : (m : ℕ) (items : List Item) (i : ℕ) → i < m → getD (padded m items) i zeroItem ≡ getD items i zeroItem
-unfolding padded
-getD-padded zero items i h = absurd (not-suc-le-zero h)
-getD-padded (suc m) [] zero h = refl
-getD-padded (suc m) [] (suc i) h = getD-padded m [] i (le-of-suc-le-suc h)
-getD-padded (suc m) (x ∷ items) zero h = refl
-getD-padded (suc m) (x ∷ items) (suc i) h = getD-padded m items i (le-of-suc-le-suc h)
 
 -- ---- the reader
 

@@ -9,7 +9,7 @@ use lib.ListN.{length, take, drop, drop-of-length-le}
 use lib.Seq.{take-all}
 use borrow.Author.Tests.{ltb-false, ltb-true}
 use Rattle.item.specs.Tests.{by-cond}
-use Rattle.protocol.specs.Operation.{setUp, perform}
+use Rattle.operations.specs.Operation.{setUp, perform}
 use Rattle.protocol.specs.declared.Answer.{Answer}
 use Rattle.protocol.specs.declared.Node.{Node}
 use Rattle.table.proofs.Given.{Gives}

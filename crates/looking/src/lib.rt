@@ -1,9 +1,9 @@
 // What is seen of store and event before the table is read. Everything is proved, no public function has a `requires`,
 // and each gives what one definition of the crate `outcome` says.
+use message::Reading;
 use outcome::Dropping;
 use outcome::Seen;
 use protocol::Event;
-use record::Reading;
 ghost use mathlib.Core.Path.{_≡_};
 ghost use Rattle.store.specs.Sound.{messageAt};
 ghost use Rattle.outcome.specs.Act.{addresseeOf, placeOf, noDrop, droppingOf, lookAt};

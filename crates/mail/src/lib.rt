@@ -11,7 +11,7 @@ ghost use mathlib.Core.Path.{_≡_};
 ghost use mathlib.Core.Bool.{cond};
 ghost use Rattle.store.specs.Records.{onRecords};
 ghost use Rattle.store.specs.Change.{putIn, putEach};
-ghost use Rattle.protocol.specs.Operation.{rowItems};
+ghost use Rattle.protocol.specs.Node.{rowItems};
 ghost use Rattle.protocol.specs.Outgoing.{outgoingTo, outgoing};
 
 // The message to node `k`, if one goes there. It is made only then, as most numbers are not sent to.

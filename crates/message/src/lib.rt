@@ -1,5 +1,5 @@
-// The six kinds of message that nodes send, and what every message bears besides. Types alone: how they stand in
-// bytes is the crate `record`, what a node does with them the crate `protocol`.
+// The six kinds of message that nodes send, what every message bears besides, and in specs/ the rows beside a Table. How
+// they stand in bytes is the crate `record`, what a node does with them the crate `protocol`.
 use item::Attempt;
 use item::Incarnation;
 use item::Item;
@@ -46,4 +46,11 @@ pub struct Envelope {
 pub struct Outgoing {
     pub present: bool,
     pub envelope: Envelope,
+}
+
+// A message, or none: what reading a record gives, and what a call delivers.
+pub enum Reading {
+    Found(Envelope),
+    // No message: an unknown kind, or an unused byte that is not 0.
+    Fault,
 }

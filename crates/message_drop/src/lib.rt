@@ -1,11 +1,11 @@
 // Drop of the message in a record. No node is looked at. Everything is proved, no function has a `requires`, and each gives
 // what one definition of the crate `outcome` says.
 use admission::first_verdict;
+use message::Reading;
 use outcome::Seen;
 use protocol::Answer;
 use protocol::Refusal;
 use protocol::Verdict;
-use record::Reading;
 ghost use mathlib.Core.Path.{_≡_};
 ghost use Rattle.store.specs.Sound.{messageAt};
 ghost use Rattle.protocol.specs.declared.Event.the-variants.{Drop};

@@ -7,9 +7,8 @@ use Rattle.item.specs.Tests.{by-cond}
 use Rattle.counters.specs.declared.Incarnation.{Incarnation}
 use Rattle.item.specs.declared.Item.{Item}
 use Rattle.message.specs.declared.Message.{Message}
-use Rattle.protocol.specs.Answer.{ok, refused}
+use Rattle.protocol.specs.Answer.{ok, refused, isRefused}
 use Rattle.protocol.specs.Fetching.{stopped}
-use Rattle.protocol.specs.Operation.{isRefused}
 use Rattle.protocol.specs.Phase.{isReturning}
 use Rattle.protocol.specs.Storing.{sendConfirm, storeSuccess, endAnswer}
 use Rattle.protocol.specs.Write.{sendStore, sendFetch}

@@ -15,11 +15,10 @@ use Rattle.counters.specs.declared.Incarnation.{Incarnation}
 use Rattle.item.specs.declared.Item.{Item}
 use Rattle.item.specs.declared.Row.{Row}
 use Rattle.message.specs.declared.Message.{Message}
-use Rattle.protocol.specs.Answer.{ok, refused}
+use Rattle.protocol.specs.Answer.{ok, refused, isRefused}
 use Rattle.protocol.specs.Fetching.{withTable, noneCounted, stopped, writtenBack}
 use Rattle.protocol.specs.Merge.{mergeRow, mergeRows}
 use Rattle.protocol.specs.Node.{rowOf, ownItem, blankNode, crashed, started, storingBegun, withRow, withRows, withCounted, confirmingBegun, writeEnded}
-use Rattle.protocol.specs.Operation.{isRefused}
 use Rattle.protocol.specs.Storing.{sendConfirm, storeSuccess}
 use Rattle.protocol.specs.Write.{sendStore, sendFetch, written, retried}
 use Rattle.protocol.specs.declared.Node.{Node}

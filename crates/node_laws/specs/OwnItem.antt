@@ -8,7 +8,7 @@ use Rattle.item.specs.declared.Item.{Item}
 use Rattle.message.specs.declared.Message.{Message}
 use Rattle.message.specs.declared.Message.the-variants as message
 use Rattle.protocol.specs.Node.{ownItem}
-use Rattle.protocol.specs.Operation.{isRefused}
+use Rattle.protocol.specs.Answer.{isRefused}
 use Rattle.protocol.specs.Write.{nextItem}
 use Rattle.protocol.specs.declared.Node.{Node}
 use Rattle.protocol.specs.declared.Step.{Step}

@@ -16,8 +16,8 @@ use Rattle.kinds.specs.declared.Known.the-variants as known
 use Rattle.record.specs.Layout.{nextOf, rowsOf}
 use Rattle.record.specs.Record.{envelopeOf, recordBytes, readRecord}
 unfoldable pub use Rattle.readable.specs.Readable.{isFound}
-use Rattle.record.specs.declared.Reading.{Reading}
-use Rattle.record.specs.declared.Reading.the-variants.{Found, Fault}
+use Rattle.message.specs.declared.Reading.{Reading}
+use Rattle.message.specs.declared.Reading.the-variants.{Found, Fault}
 use Rattle.numbers.specs.declared.Stated.{Stated}
 use Rattle.numbers.specs.declared.Stated.the-variants.{Message, Refused}
 

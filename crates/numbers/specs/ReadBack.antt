@@ -23,7 +23,7 @@ use Rattle.layout.specs.Layout.{padded, heldRows, layoutBytes}
 use Rattle.record.specs.Layout.{nextOf, rowsOf}
 use Rattle.record.specs.Record.{envelopeOf, recordBytes, readRecord}
 use Rattle.record.specs.RoundTrip.{ItemFits, RowsFit, FieldsFit, Fits, ReadsBack, reads-back, fields-again}
-use Rattle.record.specs.declared.Reading.the-variants.{Found, Fault}
+use Rattle.message.specs.declared.Reading.the-variants.{Found, Fault}
 use Rattle.numbers.specs.Numbers.{rowsFirst, rowsCount, numberCount, fieldNumbers, rowNumbers, numbersOf, itemFrom, fieldsFrom, itemsFrom, rowsFrom, numbersFit, statedAs, stated, numbersAs, recordNumbers, bytesAs, numbersBytes, isFound, isStated}
 use Rattle.numbers.specs.NumberLaws.{Fit, fit-is}
 use Rattle.numbers.specs.declared.Stated.{Stated}

@@ -10,14 +10,15 @@ use Rattle.item.specs.declared.Item.{Item}
 use Rattle.item.specs.declared.Tag.{Tag}
 use Rattle.message.specs.declared.Envelope.{Envelope}
 use Rattle.record.specs.Layout.{recordSize, recordOf, rowsOf}
-use Rattle.record.specs.declared.Reading.{Reading}
-use Rattle.record.specs.declared.Reading.the-variants.{Found, Fault}
+use Rattle.message.specs.declared.Reading.{Reading}
+use Rattle.message.specs.declared.Reading.the-variants.{Found, Fault}
 use Rattle.store.specs.Records.{recordCount, rightLength, recordsOf, onRecords}
 use Rattle.store.specs.Lent.{record-in}
 use Rattle.store.specs.Sound.{messageAt, messageIn}
 use Rattle.store.specs.Change.{putEach, countOutgoing, dropIn}
 use Rattle.protocol.specs.Deliver.{deliverStep}
-use Rattle.protocol.specs.Operation.{isRefused, rowItems}
+use Rattle.protocol.specs.Answer.{isRefused}
+use Rattle.protocol.specs.Node.{rowItems}
 use Rattle.protocol.specs.Outgoing.{outgoing}
 use Rattle.protocol.specs.Write.{writeStep, retryStep, crashStep, startStep}
 use Rattle.protocol.specs.declared.Answer.the-variants as answer

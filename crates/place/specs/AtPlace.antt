@@ -3,7 +3,7 @@ use Prim.Native.Nat.{ℕ}
 use mathlib.Core.Bool.{Bool}
 use mathlib.Core.List.{List}
 use lib.ListN.{set}
-use Rattle.protocol.specs.Operation.{Result}
+use Rattle.operations.specs.Operation.{Result}
 use Rattle.protocol.specs.Table.{nodeAt}
 use Rattle.protocol.specs.declared.Event.{Event}
 use Rattle.protocol.specs.declared.Node.{Node}

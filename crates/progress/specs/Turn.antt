@@ -7,7 +7,8 @@ use lib.Dec.{eqb}
 use lib.ListN.{take, drop, replicate}
 use Rattle.item.specs.Maxima.{maxNodes}
 use Rattle.answers.specs.declared.Reply.the-variants as reply
-use Rattle.protocol.specs.Operation.{Result, setUp, perform, isRefused}
+use Rattle.operations.specs.Operation.{Result, setUp, perform}
+use Rattle.protocol.specs.Answer.{isRefused}
 use Rattle.protocol.specs.Table.{noNode}
 use Rattle.protocol.specs.declared.Answer.{Answer}
 use Rattle.protocol.specs.declared.Event.{Event}

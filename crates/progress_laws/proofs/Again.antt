@@ -13,9 +13,9 @@ use Rattle.item.specs.declared.Item.{Item}
 use Rattle.item.specs.declared.Row.{Row}
 use Rattle.store.specs.Head.{groupSize}
 use Rattle.store.specs.Records.{recordsOf}
-use Rattle.protocol.specs.Claim.{TagFits}
+use Rattle.operations.specs.Claim.{TagFits}
 use Rattle.protocol.specs.Node.{rowOf, ownItem, storingBegun}
-use Rattle.protocol.specs.Operation.{Result, carriedOut, atNode, onSound, perform}
+use Rattle.operations.specs.Operation.{Result, carriedOut, atNode, onSound, perform}
 use Rattle.protocol.specs.Phase.{isUp, isDown, isIdle, isFetching, atStage}
 use Rattle.protocol.specs.Table.{nodeAt}
 use Rattle.protocol.specs.TableLaws.{node-sound}

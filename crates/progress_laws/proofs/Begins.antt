@@ -7,13 +7,13 @@ use mathlib.Core.Bool.{true, not}
 use mathlib.Core.List.{List}
 use borrow.Author.Tests.{lt-ltb, ne-eqb}
 use Rattle.item.specs.Tests.{and-both}
-use Rattle.record.specs.declared.Reading.the-variants.{Found}
+use Rattle.message.specs.declared.Reading.the-variants.{Found}
 use Rattle.store.specs.Change.{countOutgoing}
 use Rattle.store.specs.Records.{recordsOf}
 use Rattle.store.specs.Sound.{freeCount, messageIn}
-use Rattle.protocol.specs.Answer.{ok}
+use Rattle.protocol.specs.Answer.{ok, isRefused}
 use Rattle.protocol.specs.Node.{half, noPeers, rowOf, ownItem}
-use Rattle.protocol.specs.Operation.{Result, isRefused, carriedOut}
+use Rattle.operations.specs.Operation.{Result, carriedOut}
 use Rattle.protocol.specs.Outgoing.{outgoing, outgoingTo, goesTo, messageTo}
 use Rattle.protocol.specs.Phase.{isUp}
 use Rattle.protocol.specs.Table.{nodeAt}

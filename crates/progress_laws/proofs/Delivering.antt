@@ -13,14 +13,16 @@ use Rattle.chains.specs.Sound.{store-sound}
 use Rattle.item.specs.Maxima.{maxNodes}
 use Rattle.layout.specs.Layout.{rowsOf}
 use Rattle.message.specs.declared.Envelope.{Envelope}
-use Rattle.record.specs.declared.Reading.{Reading}
-use Rattle.record.specs.declared.Reading.the-variants.{Found}
+use Rattle.message.specs.declared.Reading.{Reading}
+use Rattle.message.specs.declared.Reading.the-variants.{Found}
 use Rattle.store.specs.Change.{putEach, countOutgoing}
 use Rattle.store.specs.Records.{recordsOf, recordIn, joined}
 use Rattle.store.specs.Sound.{freeCount, messageIn}
-use Rattle.protocol.specs.Claim.{TagFits}
+use Rattle.operations.specs.Claim.{TagFits}
 use Rattle.protocol.specs.Deliver.{deliverStep}
-use Rattle.protocol.specs.Operation.{Result, isRefused, rowItems, sentBy, carriedOut, delivered, onSound}
+use Rattle.operations.specs.Operation.{Result, sentBy, carriedOut, delivered, onSound}
+use Rattle.protocol.specs.Answer.{isRefused}
+use Rattle.protocol.specs.Node.{rowItems}
 use Rattle.protocol.specs.Outgoing.{outgoing, outgoingFrom, outgoingTo}
 use Rattle.protocol.specs.Sound.{soundNode}
 use Rattle.protocol.specs.Table.{noNode, nodeAt}

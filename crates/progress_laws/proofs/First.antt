@@ -24,9 +24,9 @@ use Rattle.store.specs.Joined.{records-joined}
 use Rattle.store.specs.Locality.{length-empty, empty-sized}
 use Rattle.store.specs.Records.{recordCount, recordsOf, joined}
 use Rattle.store.specs.Sound.{freeCount}
-use Rattle.protocol.specs.Claim.{TagFits}
+use Rattle.operations.specs.Claim.{TagFits}
 use Rattle.protocol.specs.Node.{half, zeroRows, blankNode, freshNode, rowOf, ownItem, storingBegun, writeEnded}
-use Rattle.protocol.specs.Operation.{Result, carriedOut, atNode, onSound, setUp, perform}
+use Rattle.operations.specs.Operation.{Result, carriedOut, atNode, onSound, setUp, perform}
 use Rattle.protocol.specs.Phase.{isUp, isUpIdle, isIdleStage}
 use Rattle.protocol.specs.Table.{noNode, nodeAt, freshNodes, freshTable}
 use Rattle.protocol.specs.Write.{sendStore, nextItem, writeAtLargest, written, writeStep}
@@ -34,9 +34,9 @@ use Rattle.protocol.specs.declared.Answer.the-variants as answer
 use Rattle.protocol.specs.declared.Event.the-variants as event
 use Rattle.protocol.specs.declared.Node.{Node}
 use Rattle.protocol.specs.declared.Sends.the-variants as sends
-use Rattle.protocol.proofs.Fitting.{getD-same}
+use Rattle.operations.proofs.Fitting.{getD-same}
 use Rattle.protocol.proofs.InView.{size-fits}
-use Rattle.protocol.proofs.Start.{SetUpTo, set-up-is}
+use Rattle.operations.proofs.Start.{SetUpTo, set-up-is}
 use Rattle.acting_laws.specs.Acting.{rowTakes}
 use Rattle.run_laws.specs.Laws.{LeavesSound, SetUpIsSound}
 use Rattle.run_laws.proofs.Keeps.{Decided, write-decided, performed-is, performs}

@@ -6,7 +6,7 @@ use mathlib.Core.List.{List, [], _∷_, _++_, map, map-append}
 use lib.ListN.{length}
 use Rattle.progress_laws.specs.Delivery.{Delivery, deliver, Deliver}
 use Rattle.progress_laws.specs.Each.{Each, Both}
-use Rattle.protocol.specs.Operation.{Result}
+use Rattle.operations.specs.Operation.{Result}
 
 pub each-map : {A : Type 0} (P Q : A → Type 0) → ((a : A) → P a → Q a) → (l : List A) → Each P l → Each Q l
 unfolding Each

@@ -15,13 +15,13 @@ use Rattle.item.specs.declared.Item.{Item}
 use Rattle.layout.specs.Layout.{rowsOf}
 use Rattle.message.specs.declared.Envelope.{Envelope}
 use Rattle.message.specs.declared.Message.{Message}
-use Rattle.record.specs.declared.Reading.the-variants.{Found}
+use Rattle.message.specs.declared.Reading.the-variants.{Found}
 use Rattle.store.specs.Change.{countOutgoing}
 use Rattle.store.specs.Records.{recordsOf, recordIn}
 use Rattle.store.specs.Sound.{freeCount, messageIn}
-use Rattle.protocol.specs.Answer.{ok}
+use Rattle.protocol.specs.Answer.{ok, isRefused}
 use Rattle.protocol.specs.Deliver.{deliverStep}
-use Rattle.protocol.specs.Operation.{Result, isRefused}
+use Rattle.operations.specs.Operation.{Result}
 use Rattle.protocol.specs.Outgoing.{outgoing, outgoingTo, goesTo, messageTo}
 use Rattle.protocol.specs.Sound.{soundNode}
 use Rattle.protocol.specs.Table.{nodeAt}

@@ -14,11 +14,11 @@ use Rattle.chains.specs.Times.{times, stands-head}
 use Rattle.item.specs.declared.Item.{Item}
 use Rattle.message.specs.declared.Envelope.{Envelope}
 use Rattle.message.specs.declared.Outgoing.{Outgoing}
-use Rattle.record.specs.declared.Reading.the-variants.{Found}
+use Rattle.message.specs.declared.Reading.the-variants.{Found}
 use Rattle.store.specs.Change.{putIn, putEach, countOutgoing}
 use Rattle.store.specs.Head.{firstFree, groupSize}
 use Rattle.store.specs.Sound.{freeCount, messageIn}
-use Rattle.protocol.proofs.Inbox.{no-fault}
+use Rattle.operations.proofs.Inbox.{no-fault}
 
 pub record Puts (rs rs′ : List (List ℕ)) (os : List Outgoing) : Type 0 where
   pub old : (r : ℕ) (e : Envelope) → messageIn rs r ≡ Found e → messageIn rs′ r ≡ Found e

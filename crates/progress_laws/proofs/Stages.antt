@@ -17,10 +17,9 @@ use Rattle.item.specs.declared.Item.{Item}
 use Rattle.item.specs.declared.Row.{Row}
 use Rattle.message.specs.declared.Message.the-variants as message
 use Rattle.store.specs.Change.{countOutgoing}
-use Rattle.protocol.specs.Answer.{ok}
+use Rattle.protocol.specs.Answer.{ok, isRefused}
 use Rattle.protocol.specs.Deliver.{onMessage, deliverStep}
 use Rattle.protocol.specs.Node.{half, countPeers, rowOf, ownItem, storedRow, peerOf, withRow, withCounted, confirmingBegun, belowHalf}
-use Rattle.protocol.specs.Operation.{isRefused}
 use Rattle.protocol.specs.Outgoing.{outgoing}
 use Rattle.protocol.specs.Phase.{isUp, isStoring, isStoringStage, isConfirming, isConfirmingStage, isReturning, atStage}
 use Rattle.protocol.specs.Sound.{soundNode, peersSound}

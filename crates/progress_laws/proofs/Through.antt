@@ -14,13 +14,13 @@ use Rattle.counters.specs.declared.Attempt.{Attempt}
 use Rattle.counters.specs.declared.Incarnation.{Incarnation}
 use Rattle.item.specs.declared.Item.{Item}
 use Rattle.message.specs.declared.Message.the-variants as message
-use Rattle.record.specs.declared.Reading.the-variants.{Found}
+use Rattle.message.specs.declared.Reading.the-variants.{Found}
 use Rattle.store.specs.Change.{countOutgoing}
 use Rattle.store.specs.Records.{recordsOf}
 use Rattle.store.specs.Sound.{freeCount, messageIn}
 use Rattle.protocol.specs.Answer.{ok}
 use Rattle.protocol.specs.Node.{half, noPeers, rowOf, ownItem, peerOf, countPeers, confirmingBegun}
-use Rattle.protocol.specs.Operation.{Result}
+use Rattle.operations.specs.Operation.{Result}
 use Rattle.protocol.specs.Outgoing.{outgoing, outgoingTo, goesTo, messageTo}
 use Rattle.protocol.specs.Phase.{isUp, atStage}
 use Rattle.protocol.specs.Sound.{soundNode}

@@ -7,11 +7,11 @@ use Rattle.counters.specs.declared.Incarnation.{Incarnation}
 use Rattle.message.specs.declared.Envelope.{Envelope}
 use Rattle.message.specs.declared.Message.{Message}
 use Rattle.message.specs.declared.Message.the-variants as message
-use Rattle.record.specs.declared.Reading.the-variants.{Found}
+use Rattle.message.specs.declared.Reading.the-variants.{Found}
 use Rattle.store.specs.Records.{recordsOf}
 use Rattle.store.specs.Sound.{messageIn}
 use Rattle.protocol.specs.Node.{ownItem}
-use Rattle.protocol.specs.Operation.{Result, perform}
+use Rattle.operations.specs.Operation.{Result, perform}
 use Rattle.protocol.specs.declared.Answer.{Answer}
 use Rattle.protocol.specs.declared.Answer.the-variants as answer
 use Rattle.protocol.specs.declared.Event.the-variants as event

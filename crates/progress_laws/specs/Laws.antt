@@ -10,11 +10,11 @@ use Rattle.item.specs.Maxima.{tagSize}
 use Rattle.counters.specs.declared.Incarnation.{Incarnation}
 use Rattle.item.specs.declared.Item.{Item}
 use Rattle.item.specs.declared.Tag.{Tag}
-use Rattle.record.specs.declared.Reading.the-variants.{Found}
+use Rattle.message.specs.declared.Reading.the-variants.{Found}
 use Rattle.store.specs.Records.{recordsOf}
 use Rattle.store.specs.Sound.{freeCount, messageIn}
 use Rattle.protocol.specs.Node.{half, noPeers, rowOf, ownItem}
-use Rattle.protocol.specs.Operation.{Result, setUp, perform}
+use Rattle.operations.specs.Operation.{Result, setUp, perform}
 use Rattle.protocol.specs.Phase.{isUp, isIdle}
 use Rattle.protocol.specs.Table.{nodeAt}
 use Rattle.protocol.specs.declared.Answer.the-variants as answer

@@ -17,9 +17,8 @@ use Rattle.item.specs.declared.Tag.{Tag}
 use Rattle.returns.specs.Change.{Change, atWrite, atRetry, atCrash, atStart, unchanged}
 use Rattle.returns.specs.History.{Note, quiet, begins}
 use Rattle.returns.specs.View.{View, live}
-use Rattle.protocol.specs.Answer.{ok}
+use Rattle.protocol.specs.Answer.{ok, isRefused}
 use Rattle.protocol.specs.Node.{ownItem, crashed, started, storingBegun, blankNode}
-use Rattle.protocol.specs.Operation.{isRefused}
 use Rattle.protocol.specs.Phase.{isDown, isFetching, isUpIdle, isIdle}
 use Rattle.protocol.specs.Write.{sendStore, nextItem, writeAtLargest, written, writeStep, retried, nothingToRetry, retryStep, crashStep, startStep}
 use Rattle.protocol.specs.declared.Answer.the-variants as answer

@@ -12,10 +12,9 @@ use Rattle.counters.specs.declared.Incarnation.{Incarnation}
 use Rattle.item.specs.declared.Item.{Item}
 use Rattle.item.specs.declared.Tag.{Tag}
 use Rattle.message.specs.declared.Message.the-variants as message
-use Rattle.protocol.specs.Answer.{ok, refused}
+use Rattle.protocol.specs.Answer.{ok, refused, isRefused}
 use Rattle.protocol.specs.Fetching.{onFetch, withTable, hasConflict, stopped, writtenBack, nodeRecover, tableCounted, onTable}
 use Rattle.protocol.specs.Node.{rowOf, storedRow, crashed, started, withRow, withCounted, confirmingBegun, belowHalf, atMostHalf, ownIncarnation}
-use Rattle.protocol.specs.Operation.{isRefused}
 use Rattle.protocol.specs.Phase.{isDown, isFetching, isUp, isUpIdle, isStoring, isConfirming, atStage}
 use Rattle.protocol.specs.Storing.{storeVerdict, replyStore, onStore, ownWrite, isCounted, sendConfirm, storedCounted, onStored, storedUnder, onConfirm, askedUnder, storeSuccess, confirmedCounted, onConfirmed}
 use Rattle.protocol.specs.Write.{sendStore, sendFetch, writeAtLargest, written, writeStep, retried, nothingToRetry, retryStep, crashStep, startStep}

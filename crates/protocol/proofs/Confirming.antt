@@ -26,7 +26,7 @@ use Rattle.protocol.specs.declared.Node.{Node}
 use Rattle.protocol.specs.declared.Phase.{Phase}
 use Rattle.protocol.proofs.Cases.{IfTaken, refusal-not-taken, confirm-cases, confirmed-cases}
 use Rattle.protocol.proofs.Counts.{present, present-set}
-use Rattle.protocol.proofs.InView.{InView, size-is, half-is}
+use Rattle.protocol.proofs.InView.{InView, half-is}
 use Rattle.protocol.proofs.Phases.{confirming-seen, confirming-live, returning-is, returning-not}
 use Rattle.protocol.proofs.Place.{by-place, peer-there, numbered, at-x, at-other, own-row, counted-of-group}
 use Rattle.protocol.proofs.Seen.{seen, seenPhase, seenAs, noteOf}
@@ -91,7 +91,7 @@ module _ {f n x : ℕ} {g : View} {node : Node} (s : ℕ) (i : Incarnation) (e :
       → Change f x g (noteOf x x (endAnswer (node .phase) (ownItem (withCounted node s i)))) x (seen x (writeEnded (withCounted node s i)))
   unfolding withCounted writeEnded rowOf ownItem
   last-confirmed-own l c enough = atLastConfirmed s _ (seen x (writeEnded (withCounted node s i))) c
-      (omega (arith, counted-of-group v s i l, half-is n f (v .size), ap half (size-is n x node (v .sound))))
+      (omega (arith, counted-of-group v s i l, half-is n f (v .size), ap half (v .placed .has-size)))
       (record { same-incarnation = rw (v .view); same-attempt = rw (v .view); same-item = rw (v .view) }) refl refl
       (end-finishes x (g .node x) (node .phase) (ownItem (withCounted node s i)) (rw (v .view))
       (rw (v .view) (own-row x (withCounted node s i) (numbered v))))

@@ -98,9 +98,9 @@ unfolding peersSound peerOf
 absent-beyond number n peers e q l = absent-from number n 0 peers e q (omega arith)
 
 -- with one more of the group present, the list's count is the group's
-pub count-group : (number n : ℕ) (peers : List Peer) → peersSound number n peers ≡ true → n ≤ length peers
+pub count-group : (n : ℕ) (peers : List Peer) → ((q : ℕ) → n ≤ q → present peers q ≡ false) → n ≤ length peers
     → (q : ℕ) (i : Incarnation) → q < n → countPeers (set peers q (peerUnder i)) ≡ count (replaced (present peers) q true) n
-count-group number n peers e fits q i l =
+count-group n peers absent fits q i l =
     count-peers (set peers q (peerUnder i)) ∙ rw (length-set peers q (peerUnder i), present-set peers q i (omega arith))
     (count-beyond (replaced (present peers) q true) n (length peers) fits
-    (λ k m. replaced-other (present peers) q true k (λ (d : k ≡ q). omega arith) ∙ absent-beyond number n peers e k m))
+    (λ k m. replaced-other (present peers) q true k (λ (d : k ≡ q). omega arith) ∙ absent k m))

@@ -15,11 +15,10 @@ use Rattle.item.specs.declared.Row.{Row}
 use Rattle.item.specs.declared.Tag.{Tag}
 use Rattle.message.specs.declared.Message.{Message}
 use Rattle.message.specs.declared.Message.the-variants as message
-use Rattle.protocol.specs.Answer.{ok, refused, refusalNumber}
+use Rattle.protocol.specs.Answer.{ok, refused, refusalNumber, isRefused}
 use Rattle.protocol.specs.Deliver.{onMessage}
 use Rattle.protocol.specs.Fetching.{onFetch, onTable, tableCounted, withTable, nodeRecover, hasConflict, stopped, writtenBack}
 use Rattle.protocol.specs.Node.{rowOf, withCounted, crashed, started, belowHalf, atMostHalf, ownIncarnation}
-use Rattle.protocol.specs.Operation.{isRefused}
 use Rattle.protocol.specs.Phase.{isDown, isUp, isUpIdle, isFetching, isStoring, isConfirming, isReturning}
 use Rattle.protocol.specs.Storing.{storeVerdict, replyStore, onStore, ownWrite, isCounted, sendConfirm, storedCounted, onStored, storedUnder, onConfirm, askedUnder, endAnswer, storeSuccess, confirmedCounted, onConfirmed}
 use Rattle.protocol.specs.Write.{sendStore, sendFetch, written, writeAtLargest, writeStep, retried, nothingToRetry, retryStep, crashStep, startStep}
@@ -48,18 +47,18 @@ found (m ∷ l) k e = go (eqb k m) refl e (λ z. found l k z)
 -- ---- decisions
 
 -- a decision refuses only by a number of the list
-abbrev pub Decides : List ℕ → Step → Type 0
-Decides numbers step = (why : Refusal) → step .answer ≡ answer.Refused why → List·Memᴰ (refusalNumber why) numbers
+abbrev pub RefusesBy : List ℕ → Step → Type 0
+RefusesBy numbers step = (why : Refusal) → step .answer ≡ answer.Refused why → List·Memᴰ (refusalNumber why) numbers
 
-pub by-refusal : (numbers : List ℕ) (node : Node) (why : Refusal) → List·Memᴰ (refusalNumber why) numbers → Decides numbers (refused node why)
+pub by-refusal : (numbers : List ℕ) (node : Node) (why : Refusal) → List·Memᴰ (refusalNumber why) numbers → RefusesBy numbers (refused node why)
 unfolding refused
 by-refusal numbers node why h why′ e = let d : why ≡ why′ = cc in subst (λ (w : Refusal). List·Memᴰ (refusalNumber w) numbers) d h
 
-pub by-none : (numbers : List ℕ) (step : Step) → isRefused (step .answer) ≡ false → Decides numbers step
+pub by-none : (numbers : List ℕ) (step : Step) → isRefused (step .answer) ≡ false → RefusesBy numbers step
 unfolding isRefused
 by-none numbers step h why e = absurd (false≢true (sym h ∙ ap isRefused e))
 
-pub by-ok : (numbers : List ℕ) (node : Node) (s : Sends) → Decides numbers (ok node s)
+pub by-ok : (numbers : List ℕ) (node : Node) (s : Sends) → RefusesBy numbers (ok node s)
 unfolding ok isRefused
 by-ok numbers node s = by-none numbers (ok node s) refl
 
@@ -67,39 +66,39 @@ abbrev pub ofNode : List ℕ
 ofNode = 5 ∷ 6 ∷ []
 
 module _ (node : Node) where
-  pub write-decides : (tag : Tag) → Decides ofNode (writeStep node tag)
+  pub write-refuses : (tag : Tag) → RefusesBy ofNode (writeStep node tag)
   unfolding writeStep sendStore refusalNumber
-  write-decides tag =
-      by-cond (Decides ofNode) (isUpIdle (node .phase)) _ _
-      (λ _. by-cond (Decides ofNode) (writeAtLargest node) _ _
+  write-refuses tag =
+      by-cond (RefusesBy ofNode) (isUpIdle (node .phase)) _ _
+      (λ _. by-cond (RefusesBy ofNode) (writeAtLargest node) _ _
       (λ _. by-refusal ofNode node AtLargest (found _ _ refl))
       (λ _. by-ok ofNode (written node tag) _))
       (λ _. by-refusal ofNode node WrongStage (found _ _ refl))
 
-  pub retry-decides : Decides ofNode (retryStep node)
+  pub retry-refuses : RefusesBy ofNode (retryStep node)
   unfolding retryStep sendStore sendFetch refusalNumber
-  retry-decides =
-      by-cond (Decides ofNode) (nothingToRetry node) _ _
+  retry-refuses =
+      by-cond (RefusesBy ofNode) (nothingToRetry node) _ _
       (λ _. by-refusal ofNode node WrongStage (found _ _ refl))
-      (λ _. by-cond (Decides ofNode) (isFetching (node .phase)) _ _
+      (λ _. by-cond (RefusesBy ofNode) (isFetching (node .phase)) _ _
       (λ _. by-ok ofNode node _)
-      (λ _. by-cond (Decides ofNode) (attemptAtLargest (node .attempt)) _ _
+      (λ _. by-cond (RefusesBy ofNode) (attemptAtLargest (node .attempt)) _ _
       (λ _. by-refusal ofNode node AtLargest (found _ _ refl))
       (λ _. by-ok ofNode (retried node) _)))
 
-  pub start-decides : Decides ofNode (startStep node)
+  pub start-refuses : RefusesBy ofNode (startStep node)
   unfolding startStep sendFetch refusalNumber
-  start-decides =
-      by-cond (Decides ofNode) (isDown (node .phase)) _ _
-      (λ _. by-cond (Decides ofNode) (incarnationAtLargest (node .incarnation)) _ _
+  start-refuses =
+      by-cond (RefusesBy ofNode) (isDown (node .phase)) _ _
+      (λ _. by-cond (RefusesBy ofNode) (incarnationAtLargest (node .incarnation)) _ _
       (λ _. by-refusal ofNode node AtLargest (found _ _ refl))
       (λ _. by-ok ofNode (started node) _))
       (λ _. by-refusal ofNode node WrongStage (found _ _ refl))
 
-  pub crash-decides : Decides (5 ∷ []) (crashStep node)
+  pub crash-refuses : RefusesBy (5 ∷ []) (crashStep node)
   unfolding crashStep refusalNumber
-  crash-decides =
-      by-cond (Decides (5 ∷ [])) (isDown (node .phase)) _ _
+  crash-refuses =
+      by-cond (RefusesBy (5 ∷ [])) (isDown (node .phase)) _ _
       (λ _. by-refusal (5 ∷ []) node WrongStage (found _ _ refl))
       (λ _. by-ok (5 ∷ []) (crashed node) _)
 
@@ -107,10 +106,10 @@ abbrev pub ofMessage : List ℕ
 ofMessage = 9 ∷ 10 ∷ 11 ∷ 12 ∷ 13 ∷ []
 
 module _ (node : Node) (sender : ℕ) (incarnation : Incarnation) where
-  reply-decides : (row : Row) (attempt : Attempt) (item : Item)
-      → Decides ofMessage (replyStore (storeVerdict row incarnation attempt item) node sender incarnation attempt item)
+  reply-refuses : (row : Row) (attempt : Attempt) (item : Item)
+      → RefusesBy ofMessage (replyStore (storeVerdict row incarnation attempt item) node sender incarnation attempt item)
   unfolding storeVerdict replyStore refusalNumber
-  reply-decides row attempt item =
+  reply-refuses row attempt item =
       by-cond Replies (ranksBelow item (row .item)) _ _
       (λ _. by-refusal ofMessage node LowerRank (found _ _ refl))
       (λ _. by-cond Replies (ranksBelow (row .item) item) _ _ (λ _. by-ok ofMessage _ _)
@@ -121,66 +120,66 @@ module _ (node : Node) (sender : ℕ) (incarnation : Incarnation) where
       (λ _. by-refusal ofMessage node OtherTag (found _ _ refl))))
     where
       Replies : Verdict → Type 0
-      Replies v = Decides ofMessage (replyStore v node sender incarnation attempt item)
+      Replies v = RefusesBy ofMessage (replyStore v node sender incarnation attempt item)
 
   -- a message that the node's stage takes and that is of its present write or return, from a sender not counted yet
-  counted-decides : (takes fits : Bool) (step : Step) → Decides ofMessage step
-      → Decides ofMessage (cond takes (cond fits (cond (isCounted node sender) (refused node Counted) step) (refused node Stale)) (refused node NotTaken))
+  counted-refuses : (takes fits : Bool) (step : Step) → RefusesBy ofMessage step
+      → RefusesBy ofMessage (cond takes (cond fits (cond (isCounted node sender) (refused node Counted) step) (refused node Stale)) (refused node NotTaken))
   unfolding refusalNumber
-  counted-decides takes fits step h =
-      by-cond (Decides ofMessage) takes _ _
-      (λ _. by-cond (Decides ofMessage) fits _ _
-      (λ _. by-cond (Decides ofMessage) (isCounted node sender) _ _ (λ _. by-refusal ofMessage node Counted (found _ _ refl)) (λ _. h))
+  counted-refuses takes fits step h =
+      by-cond (RefusesBy ofMessage) takes _ _
+      (λ _. by-cond (RefusesBy ofMessage) fits _ _
+      (λ _. by-cond (RefusesBy ofMessage) (isCounted node sender) _ _ (λ _. by-refusal ofMessage node Counted (found _ _ refl)) (λ _. h))
       (λ _. by-refusal ofMessage node Stale (found _ _ refl)))
       (λ _. by-refusal ofMessage node NotTaken (found _ _ refl))
 
-stored-decides : (node : Node) → Decides ofMessage (storedCounted node)
+stored-refuses : (node : Node) → RefusesBy ofMessage (storedCounted node)
 unfolding storedCounted sendConfirm
-stored-decides node =
-    by-cond (Decides ofMessage) (belowHalf node) _ _
+stored-refuses node =
+    by-cond (RefusesBy ofMessage) (belowHalf node) _ _
     (λ _. by-ok ofMessage node _) (λ _. by-ok ofMessage _ _)
 
-confirmed-decides : (node : Node) → Decides ofMessage (confirmedCounted node)
+confirmed-refuses : (node : Node) → RefusesBy ofMessage (confirmedCounted node)
 unfolding confirmedCounted storeSuccess endAnswer isRefused
-confirmed-decides node =
-    by-cond (Decides ofMessage) (belowHalf node) _ _
+confirmed-refuses node =
+    by-cond (RefusesBy ofMessage) (belowHalf node) _ _
     (λ _. by-ok ofMessage node _)
     (λ _. by-none ofMessage (storeSuccess node)
     (by-cond (λ a. isRefused a ≡ false) (isReturning (node .phase)) (answer.Accepted _) (answer.Settled _) (λ _. refl) (λ _. refl)))
 
-table-decides : (node : Node) → Decides ofMessage (tableCounted node)
+table-refuses : (node : Node) → RefusesBy ofMessage (tableCounted node)
 unfolding tableCounted nodeRecover stopped sendStore isRefused
-table-decides node =
-    by-cond (Decides ofMessage) (atMostHalf node) _ _
+table-refuses node =
+    by-cond (RefusesBy ofMessage) (atMostHalf node) _ _
     (λ _. by-ok ofMessage node _)
-    (λ _. by-cond (Decides ofMessage) (hasConflict node) _ _
+    (λ _. by-cond (RefusesBy ofMessage) (hasConflict node) _ _
     (λ _. by-none ofMessage (stopped node) refl)
     (λ _. by-ok ofMessage (writtenBack node) _))
 
-pub on-message-decides : (m : Message) (node : Node) (sender : ℕ) (i : Incarnation) (items : List Item) → Decides ofMessage (onMessage m node sender i items)
+pub on-message-refuses : (m : Message) (node : Node) (sender : ℕ) (i : Incarnation) (items : List Item) → RefusesBy ofMessage (onMessage m node sender i items)
 unfolding onMessage onStore onStored onConfirm onConfirmed onFetch onTable refusalNumber
-on-message-decides (message.Store a k) node sender i items =
-    by-cond (Decides ofMessage) (isUp (node .phase)) _ _
-    (λ _. reply-decides node sender i (rowOf node sender) a k)
+on-message-refuses (message.Store a k) node sender i items =
+    by-cond (RefusesBy ofMessage) (isUp (node .phase)) _ _
+    (λ _. reply-refuses node sender i (rowOf node sender) a k)
     (λ _. by-refusal ofMessage node NotTaken (found _ _ refl))
-on-message-decides (message.Stored o a k) node sender i items =
-    counted-decides node sender i (isStoring (node .phase)) (ownWrite node o a k) _ (stored-decides (withCounted node sender i))
-on-message-decides (message.Confirm o a k) node sender i items =
-    by-cond (Decides ofMessage) (isUp (node .phase)) _ _
-    (λ _. by-cond (Decides ofMessage) (ownIncarnation node o && storedUnder (rowOf node sender) i a k) _ _
+on-message-refuses (message.Stored o a k) node sender i items =
+    counted-refuses node sender i (isStoring (node .phase)) (ownWrite node o a k) _ (stored-refuses (withCounted node sender i))
+on-message-refuses (message.Confirm o a k) node sender i items =
+    by-cond (RefusesBy ofMessage) (isUp (node .phase)) _ _
+    (λ _. by-cond (RefusesBy ofMessage) (ownIncarnation node o && storedUnder (rowOf node sender) i a k) _ _
     (λ _. by-ok ofMessage node _)
     (λ _. by-refusal ofMessage node Stale (found _ _ refl)))
     (λ _. by-refusal ofMessage node NotTaken (found _ _ refl))
-on-message-decides (message.Confirmed o a k) node sender i items =
-    counted-decides node sender i (isConfirming (node .phase)) (ownWrite node o a k && askedUnder node sender i) _
-    (confirmed-decides (withCounted node sender i))
-on-message-decides message.Fetch node sender i items =
-    by-cond (Decides ofMessage) (isUp (node .phase)) _ _
+on-message-refuses (message.Confirmed o a k) node sender i items =
+    counted-refuses node sender i (isConfirming (node .phase)) (ownWrite node o a k && askedUnder node sender i) _
+    (confirmed-refuses (withCounted node sender i))
+on-message-refuses message.Fetch node sender i items =
+    by-cond (RefusesBy ofMessage) (isUp (node .phase)) _ _
     (λ _. by-ok ofMessage node _)
     (λ _. by-refusal ofMessage node NotTaken (found _ _ refl))
-on-message-decides (message.Table o) node sender i items =
-    counted-decides node sender i (isFetching (node .phase)) (ownIncarnation node o) _
-    (table-decides (withTable node sender i items))
+on-message-refuses (message.Table o) node sender i items =
+    counted-refuses node sender i (isFetching (node .phase)) (ownIncarnation node o) _
+    (table-refuses (withTable node sender i items))
 
 -- ---- a list within another, by a test of each number
 
@@ -193,5 +192,5 @@ widen [] long e k m = absurd (List·Memᴰ·not-nil m)
 widen (s ∷ l) long e k (List·Memᴰ·head p) = Memᴰ·cast p (found long s (and-left (holds s long) (within l long) e))
 widen (s ∷ l) long e k (List·Memᴰ·tail m) = widen l long (and-right (holds s long) (within l long) e) k m
 
-pub wider : (short long : List ℕ) → within short long ≡ true → (step : Step) → Decides short step → Decides long step
+pub wider : (short long : List ℕ) → within short long ≡ true → (step : Step) → RefusesBy short step → RefusesBy long step
 wider short long e step h why z = widen short long e (refusalNumber why) (h why z)

@@ -13,7 +13,7 @@ use Rattle.message.specs.declared.Message.{Message}
 use Rattle.message.specs.declared.Message.the-variants as message
 use Rattle.returns.specs.View.{View, Sent, Each}
 use Rattle.protocol.specs.Deliver.{onMessage, deliverStep}
-use Rattle.protocol.specs.Operation.{isRefused}
+use Rattle.protocol.specs.Answer.{isRefused}
 use Rattle.protocol.specs.declared.Node.{Node}
 use Rattle.protocol.proofs.Cases.{IfTaken}
 use Rattle.protocol.proofs.Confirming.{confirm-tied, confirmed-tied}

@@ -25,8 +25,7 @@ use Rattle.returns.specs.View.{View, ViewNode, tableFrom, Sent, Each, each-nil,
 use Rattle.protocol.specs.Answer.{ok}
 use Rattle.protocol.specs.Fetching.{onFetch, noneCounted, withTable, hasConflict, stopped, writtenBack, onTable}
 use Rattle.protocol.specs.Merge.{mergeRow, lowestMarked}
-use Rattle.protocol.specs.Node.{half, rowOf, countPeers, crashed, blankNode, storingBegun, withCounted, withRows}
-use Rattle.protocol.specs.Operation.{rowItems}
+use Rattle.protocol.specs.Node.{half, rowOf, countPeers, crashed, blankNode, storingBegun, withCounted, withRows, rowItems}
 use Rattle.protocol.specs.Phase.{isFetching}
 use Rattle.protocol.specs.Write.{sendStore}
 use Rattle.protocol.specs.declared.Node.{Node}
@@ -35,7 +34,7 @@ use Rattle.protocol.specs.declared.Stage.the-variants.{Storing}
 use Rattle.protocol.proofs.Calls.{crash-seen}
 use Rattle.protocol.proofs.Cases.{IfTaken, refusal-not-taken, fetch-cases, table-cases}
 use Rattle.protocol.proofs.Counts.{none-present, nobody-present, present-set}
-use Rattle.protocol.proofs.InView.{InView, size-is, half-is}
+use Rattle.protocol.proofs.InView.{InView, half-is}
 use Rattle.protocol.proofs.Phases.{fetching-is, up-live}
 use Rattle.protocol.proofs.Place.{row-there, peer-there, counted-of-group, numbered}
 use Rattle.protocol.proofs.Rows.{begun-again, merged-row, merge-merged, none-marked}
@@ -99,7 +98,7 @@ module _ {f n x k : ℕ} {g : View} {node : Node} (v : InView f n x k g node) (s
   enough-tables : s < n → suc (half (withTable node s i items .n)) ≤ countPeers (withTable node s i items .counted)
       → suc f ≤ count (replaced (g .node k .counted) s true) (groupSize f)
   unfolding withTable withCounted withRows
-  enough-tables l enough = omega (arith, counted-of-group v s i l, half-is n f (v .size), ap half (size-is n k node (v .sound)))
+  enough-tables l enough = omega (arith, counted-of-group v s i l, half-is n f (v .size), ap half (v .placed .has-size))
 
   table-last : s < n → suc (half (withTable node s i items .n)) ≤ countPeers (withTable node s i items .counted)
       → hasConflict (withTable node s i items) ≡ false
@@ -110,7 +109,7 @@ module _ {f n x k : ℕ} {g : View} {node : Node} (v : InView f n x k g node) (s
       (enough-tables l enough) refl
       (subst₂ (λ (item : Item) (marked : Bool). Merged (g .node k) (getD items x zeroItem) item marked)
       (sym (begun-again (withTable node s i items) (Returning Storing) (record { 0 = 1 }) x
-      (omega (arith, v .fits, v .x-below, table-shaped node s i items (v .shaped) .rows-length))))
+      (omega (arith, v .fits, v .x-below, table-shaped node s i items (v .placed .shaped) .rows-length))))
       (table-unmarked fine) table-merged)
       (λ t. record { same-incarnation = rw (v .view); now-storing = refl; none-counted = none-present })
 

@@ -1,10 +1,10 @@
--- The premises of every tie lemma, gathered in two records: a sound node k as x's view shows it, and a message that came to
+-- The premises of every tie lemma, gathered in two records: a node k at its place as x's view shows it, and a message that came to
 -- it. What `soundNode` and `validSize` say is read off here once.
 use Prim.Native.Nat.{ℕ, suc, _+_, _%_, _≤_, _<_}
 use native.Mathlib.Omega.{arith}
-use mathlib.Core.Path.{_≡_}
+use mathlib.Core.Path.{_≡_, refl}
 use mathlib.Core.Logic.{_≢_}
-use mathlib.Core.Bool.{true}
+use mathlib.Core.Bool.{Bool, true, false}
 use mathlib.Core.List.{List}
 use lib.ListN.{length}
 use borrow.Author.Tests.{eqb-true, leb-true}
@@ -14,9 +14,10 @@ use Rattle.item.specs.declared.Item.{Item}
 use Rattle.message.specs.declared.Envelope.{Envelope}
 use Rattle.returns.specs.Majority.{groupSize}
 use Rattle.returns.specs.View.{View, Sent, Each}
-use Rattle.protocol.specs.Node.{half}
-use Rattle.protocol.specs.Sound.{soundNode, peersSound}
+use Rattle.protocol.specs.Node.{half, peerOf}
+use Rattle.protocol.specs.Sound.{soundNode}
 use Rattle.protocol.specs.declared.Node.{Node}
+use Rattle.protocol.specs.declared.Peer.{Peer}
 use Rattle.protocol.proofs.Seen.{seen, seenMessage}
 
 -- the lists of a node stand for arrays
@@ -25,14 +26,32 @@ pub record Shaped (node : Node) : Type 0 where
   pub counted-length : length (node .counted) ≡ maxNodes
   pub asked-length : length (node .asked) ≡ maxNodes
 
--- node k of a group of n = 2f + 1, sound, and what the view g of x shows of it
+-- "below n, not itself"
+abbrev pub Others : ℕ → ℕ → List Peer → Type 0
+Others n k peers = (q : ℕ) → peerOf peers q .present ≡ true → (q < n) × (q ≢ k)
+
+pub none-beyond : (n k : ℕ) (peers : List Peer) → Others n k peers → (q : ℕ) → n ≤ q → peerOf peers q .present ≡ false
+none-beyond n k peers o q l = go (peerOf peers q .present) refl
+  where
+    go : (t : Bool) → peerOf peers q .present ≡ t → peerOf peers q .present ≡ false
+    go true e = absurd (omega (arith, o q e .0))
+    go false e = e
+
+-- what the ties use of a node at its place: "each with its place as number, this n", and whom it counts and asks
+pub record Placed (n k : ℕ) (node : Node) : Type 0 where
+  pub has-number : node .number ≡ k
+  pub has-size : node .n ≡ n
+  pub shaped : Shaped node
+  pub counts-others : Others n k (node .counted)
+  pub asks-others : Others n k (node .asked)
+
+-- node k of a group of n = 2f + 1, at its place, and what the view g of x shows of it
 pub record InView (f n x k : ℕ) (g : View) (node : Node) : Type 0 where
   pub size : n ≡ groupSize f
   pub fits : n ≤ maxNodes
   pub x-below : x < n
   pub k-below : k < n
-  pub sound : soundNode n k node ≡ true
-  pub shaped : Shaped node
+  pub placed : Placed n k node
   pub view : g .node k ≡ seen x node
 
 -- a message at its addressee k, with the items beside it; what x sees of it was sent
@@ -66,7 +85,3 @@ module _ (n k : ℕ) (node : Node) (e : soundNode n k node ≡ true) where
   pub size-is : node .n ≡ n
   unfolding soundNode
   size-is = search (and-left, and-right, eqb-true)
-
-  pub counted-sound : peersSound k n (node .counted) ≡ true
-  unfolding soundNode
-  counted-sound = search (and-left, and-right)

@@ -2,20 +2,7 @@
 use mathlib.Core.Path.{_≡_, refl, sym}
 use mathlib.Core.Bool.{true, false, false≢true}
 use Rattle.returns.specs.View.{returning, up, idle, storing, confirming, live, clash}
-use Rattle.protocol.specs.Phase.{
-  isDown,
-  isFetching,
-  isUp,
-  isIdleStage,
-  isStoringStage,
-  isConfirmingStage,
-  isUpIdle,
-  isIdle,
-  isStoring,
-  isConfirming,
-  isReturning,
-  atStage,
-}
+use Rattle.protocol.specs.Phase.{isDown, isFetching, isUp, isIdleStage, isStoringStage, isConfirmingStage, isUpIdle, isIdle, isStoring, isConfirming, isReturning, atStage}
 use Rattle.protocol.specs.declared.Phase.{Phase}
 use Rattle.protocol.specs.declared.Phase.the-variants.{Down, Fetching, Returning, Up}
 use Rattle.protocol.specs.declared.Stage.{Stage}

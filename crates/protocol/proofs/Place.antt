@@ -20,7 +20,7 @@ use Rattle.protocol.specs.Node.{rowOf, ownItem, countPeers, storingBegun
 use Rattle.protocol.specs.declared.Node.{Node}
 use Rattle.protocol.specs.declared.Phase.{Phase}
 use Rattle.protocol.proofs.Counts.{none-present, peerUnder, count-group}
-use Rattle.protocol.proofs.InView.{InView, number-is, counted-sound}
+use Rattle.protocol.proofs.InView.{InView, none-beyond}
 use Rattle.protocol.proofs.Seen.{seen, seenPhase, stageIn}
 
 pub by-place : {A : Type 0} (k x : ℕ) → (k ≡ x → A) → (k ≢ x → A) → A
@@ -33,21 +33,21 @@ by-place {A} k x h h′ = go (eqb k x) refl
 module _ {f n x k : ℕ} {g : View} {node : Node} (v : InView f n x k g node) where
   -- row x is among the node's rows
   pub row-there : x < length (node .rows)
-  row-there = omega (arith, v .x-below, v .fits, v .shaped .rows-length)
+  row-there = omega (arith, v .x-below, v .fits, v .placed .shaped .rows-length)
 
   -- and a peer of the group among those that it counts
   pub peer-there : (q : ℕ) → q < n → q < length (node .counted)
-  peer-there q l = omega (arith, v .fits, v .shaped .counted-length)
+  peer-there q l = omega (arith, v .fits, v .placed .shaped .counted-length)
 
   -- with one more of the group, those counted are as many as the list counts
   pub counted-of-group : (q : ℕ) (i : Incarnation) → q < n
       → countPeers (set (node .counted) q (peerUnder i)) ≡ count (replaced (g .node k .counted) q true) (groupSize f)
   counted-of-group q i l =
-      let fits : n ≤ length (node .counted) = omega (arith, v .fits, v .shaped .counted-length) in
-      rw (v .view, ← v .size) (count-group k n (node .counted) (counted-sound n k node (v .sound)) fits q i l)
+      let fits : n ≤ length (node .counted) = omega (arith, v .fits, v .placed .shaped .counted-length) in
+      rw (v .view, ← v .size) (count-group n (node .counted) (none-beyond n k (node .counted) (v .placed .counts-others)) fits q i l)
 
   pub numbered : node .number ≡ k
-  numbered = number-is n k node (v .sound)
+  numbered = v .placed .has-number
 
   -- a change at x, where k is x
   pub at-x : {note : Note} {w : ViewNode} → k ≡ x → (InView f n x x g node → Change f x g note x w) → Change f x g note k w

@@ -36,8 +36,7 @@ use Rattle.returns.specs.View.{
 }
 use Rattle.returns.specs.History.{Note, quiet, begins, settles, returns}
 use Rattle.returns.specs.Change.{Change, MaySend}
-use Rattle.protocol.specs.Node.{rowOf, peerOf}
-use Rattle.protocol.specs.Operation.{rowItems}
+use Rattle.protocol.specs.Node.{rowOf, peerOf, rowItems}
 use Rattle.protocol.specs.Outgoing.{outgoing}
 use Rattle.protocol.specs.declared.Answer.{Answer}
 use Rattle.protocol.specs.declared.Answer.the-variants as answer

@@ -17,8 +17,7 @@ use Rattle.returns.specs.Change.{Change, MaySend}
 use Rattle.returns.specs.History.{Note}
 use Rattle.returns.specs.View.{confirming, ViewMessage, View, Each, each-nil, each-cons}
 use Rattle.protocol.specs.Answer.{ok}
-use Rattle.protocol.specs.Node.{ownItem, rowOf}
-use Rattle.protocol.specs.Operation.{rowItems}
+use Rattle.protocol.specs.Node.{ownItem, rowOf, rowItems}
 use Rattle.protocol.specs.Outgoing.{goesTo, messageTo, outgoingTo, outgoingFrom, outgoing}
 use Rattle.protocol.specs.Storing.{sendConfirm}
 use Rattle.protocol.specs.Write.{sendStore, sendFetch}
@@ -29,7 +28,7 @@ use Rattle.protocol.specs.declared.Step.{Step}
 use Rattle.protocol.proofs.Seen.{seen, stageIn, ifAt, seenAs, seenMessage, noteOf, Tied}
 
 -- what is outgoing goes to some node
-outgoing-from : (node : Node) (s : Sends) (back k count : ℕ) (o : Outgoing) → List·Memᴰ o (outgoingFrom node s back k count)
+pub outgoing-from : (node : Node) (s : Sends) (back k count : ℕ) (o : Outgoing) → List·Memᴰ o (outgoingFrom node s back k count)
     → (to : ℕ) × (o ≡ outgoingTo node s back to)
 unfolding outgoingFrom
 outgoing-from node s back k zero o m = absurd (List·Memᴰ·not-nil m)

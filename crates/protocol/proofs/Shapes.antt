@@ -22,23 +22,12 @@ use Rattle.protocol.specs.declared.Phase.{Phase}
 use Rattle.protocol.specs.declared.Refusal.{Refusal}
 use Rattle.protocol.specs.declared.Sends.{Sends}
 use Rattle.protocol.specs.declared.Step.{Step}
-use Rattle.protocol.proofs.Cases.{
-  write-cases,
-  retry-cases,
-  crash-cases,
-  start-cases,
-  store-cases,
-  stored-cases,
-  confirm-cases,
-  confirmed-cases,
-  fetch-cases,
-  table-cases,
-}
+use Rattle.protocol.proofs.Cases.{write-cases, retry-cases, crash-cases, start-cases, store-cases, stored-cases, confirm-cases, confirmed-cases, fetch-cases, table-cases}
 use Rattle.protocol.proofs.InView.{Shaped}
 use Rattle.protocol.proofs.Rows.{merged-length}
 
 -- the changes of a node
-crashed-shaped : (node : Node) → Shaped (crashed node)
+pub crashed-shaped : (node : Node) → Shaped (crashed node)
 unfolding crashed blankNode
 crashed-shaped node = record { rows-length = refl; counted-length = refl; asked-length = refl }
 
@@ -46,31 +35,31 @@ pub fresh-shaped : (number n : ℕ) → Shaped (freshNode number n)
 unfolding freshNode writeEnded blankNode
 fresh-shaped number n = record { rows-length = refl; counted-length = refl; asked-length = refl }
 
-started-shaped : (node : Node) → Shaped (started node)
+pub started-shaped : (node : Node) → Shaped (started node)
 unfolding started
 started-shaped node = record { rows-length = refl; counted-length = refl; asked-length = refl }
 
-begun-shaped : (node : Node) (phase : Phase) (attempt : Attempt) (item : Item) → Shaped node → Shaped (storingBegun node phase attempt item)
+pub begun-shaped : (node : Node) (phase : Phase) (attempt : Attempt) (item : Item) → Shaped node → Shaped (storingBegun node phase attempt item)
 unfolding storingBegun
 begun-shaped node phase attempt item s =
     record { rows-length = simp length-set (s .rows-length); counted-length = refl; asked-length = refl }
 
-row-shaped : (node : Node) (i : ℕ) (row : Row) → Shaped node → Shaped (withRow node i row)
+pub row-shaped : (node : Node) (i : ℕ) (row : Row) → Shaped node → Shaped (withRow node i row)
 unfolding withRow
 row-shaped node i row s =
     record { rows-length = simp length-set (s .rows-length); counted-length = s .counted-length; asked-length = s .asked-length }
 
-counted-shaped : (node : Node) (i : ℕ) (incarnation : Incarnation) → Shaped node → Shaped (withCounted node i incarnation)
+pub counted-shaped : (node : Node) (i : ℕ) (incarnation : Incarnation) → Shaped node → Shaped (withCounted node i incarnation)
 unfolding withCounted
 counted-shaped node i incarnation s =
     record { rows-length = s .rows-length; counted-length = simp length-set (s .counted-length); asked-length = s .asked-length }
 
-confirming-shaped : (node : Node) (phase : Phase) → Shaped node → Shaped (confirmingBegun node phase)
+pub confirming-shaped : (node : Node) (phase : Phase) → Shaped node → Shaped (confirmingBegun node phase)
 unfolding confirmingBegun
 confirming-shaped node phase s =
     record { rows-length = s .rows-length; counted-length = refl; asked-length = s .counted-length }
 
-ended-shaped : (node : Node) → Shaped node → Shaped (writeEnded node)
+pub ended-shaped : (node : Node) → Shaped node → Shaped (writeEnded node)
 unfolding writeEnded
 ended-shaped node s = record { rows-length = s .rows-length; counted-length = refl; asked-length = refl }
 

@@ -1,7 +1,7 @@
 -- What a call tells of x, as a note, against the words of the claim: the note moves the history as `lastAfter` and `begunAt`
 -- do, and a return is the note `returns`.
 use Prim.Native.Nat.{ℕ}
-use mathlib.Core.Path.{_≡_, refl, ap, subst, _∙_}
+use mathlib.Core.Path.{_≡_, refl, sym, ap, subst, _∙_}
 use mathlib.Core.Logic.{_⊎_, inl, inr}
 use mathlib.Core.Bool.{Bool, true, false, cond, false≢true}
 use mathlib.Core.List.{List, [], _∷_, List·Memᴰ, List·Memᴰ·cases-cons, List·Memᴰ·head}
@@ -9,20 +9,20 @@ use lib.Dec.{eqb}
 use Rattle.item.specs.Item.{itemAbove}
 use Rattle.item.specs.declared.Item.{Item}
 use Rattle.item.specs.declared.Tag.{Tag}
-use Rattle.record.specs.declared.Reading.{Reading}
-use Rattle.record.specs.declared.Reading.the-variants.{Found, Fault}
+use Rattle.message.specs.declared.Reading.{Reading}
+use Rattle.message.specs.declared.Reading.the-variants.{Found, Fault}
 use Rattle.returns.specs.History.{Note, quiet, begins, settles, returns, History, afterNote}
-use Rattle.store.specs.Records.{recordsOf}
-use Rattle.store.specs.Sound.{messageIn}
-use Rattle.protocol.specs.Operation.{isRefused}
-use Rattle.protocol.specs.Run.{Call, deliveredBy, isTo, itemAfter, lastAfter, isOk, begunAt}
+use Rattle.returns.specs.View.{clash}
+use Rattle.protocol.specs.Answer.{isRefused}
+use Rattle.protocol.specs.Claim.{ReturnsWith}
+use Rattle.protocol.specs.Network.{Network, writes, retries, crashes, starts, delivers, Next, host-refuses, node-refuses, drops, acts}
+use Rattle.protocol.specs.Call.{Call, isTo, itemAfter, lastAfter, isOk, begunAt}
 use Rattle.protocol.specs.declared.Answer.{Answer}
 use Rattle.protocol.specs.declared.Answer.the-variants as answer
 use Rattle.protocol.specs.declared.Event.{Event}
 use Rattle.protocol.specs.declared.Event.the-variants as event
 use Rattle.protocol.specs.declared.Refusal.{Refusal}
 use Rattle.protocol.proofs.Seen.{noteOf}
-use Rattle.protocol.proofs.Stands.{Quiet}
 
 -- what an event, the message that it delivers and its answer tell of x
 abbrev pub told : ℕ → Event → Reading → Answer → Note
@@ -34,9 +34,12 @@ told x (event.Drop r) m a = quiet
 told x (event.Deliver r) Fault a = quiet
 told x (event.Deliver r) (Found e) a = noteOf x (e .addressee) a
 
--- ---- a refusal tells nothing
+-- what a call tells of x
+abbrev pub toldBy : ℕ → Call → Note
+toldBy x call = told x (call .event) (call .message) (call .answer)
 
-refused-why : (a : Answer) → isRefused a ≡ true → (why : Refusal) × (a ≡ answer.Refused why)
+-- a refusal tells nothing
+pub refused-why : (a : Answer) → isRefused a ≡ true → (why : Refusal) × (a ≡ answer.Refused why)
 unfolding isRefused
 refused-why answer.Ok e = absurd (false≢true e)
 refused-why (answer.Settled i) e = absurd (false≢true e)
@@ -44,20 +47,25 @@ refused-why (answer.Accepted i) e = absurd (false≢true e)
 refused-why (answer.Stopped r) e = absurd (false≢true e)
 refused-why (answer.Refused why) e = (why, refl)
 
-told-refused : (x : ℕ) (e : Event) (m : Reading) (why : Refusal) → told x e m (answer.Refused why) ≡ quiet
+quiet-refusal : (x : ℕ) (e : Event) (m : Reading) (why : Refusal) → told x e m (answer.Refused why) ≡ quiet
 unfolding isOk
-told-refused x (event.Write k tag) m why = refl
-told-refused x (event.Retry k) m why = refl
-told-refused x (event.Crash k) m why = refl
-told-refused x (event.Start k) m why = refl
-told-refused x (event.Drop r) m why = refl
-told-refused x (event.Deliver r) Fault why = refl
-told-refused x (event.Deliver r) (Found e) why = refl
+quiet-refusal x (event.Write k tag) m why = refl
+quiet-refusal x (event.Retry k) m why = refl
+quiet-refusal x (event.Crash k) m why = refl
+quiet-refusal x (event.Start k) m why = refl
+quiet-refusal x (event.Drop r) m why = refl
+quiet-refusal x (event.Deliver r) Fault why = refl
+quiet-refusal x (event.Deliver r) (Found e) why = refl
 
-pub told-quiet : (x : ℕ) (e : Event) (m : Reading) → Quiet (told x e m)
-told-quiet x e m a z =
-    let w = refused-why a z in
-    ap (told x e m) (w .1) ∙ told-refused x e m (w .0)
+pub told-refused : (x : ℕ) (e : Event) (m : Reading) (a : Answer) → isRefused a ≡ true → told x e m a ≡ quiet
+told-refused x e m a r =
+    let w = refused-why a r in
+    subst (λ (b : Answer). told x e m b ≡ quiet) (sym (w .1)) (quiet-refusal x e m (w .0))
+
+-- and accepts nothing
+pub refused-not-accepted : (a : Answer) (item : Item) {B : Type 0} → isRefused a ≡ true → a ≡ answer.Accepted item → B
+unfolding isRefused
+refused-not-accepted a item r e = absurd (false≢true (sym (ap isRefused e) ∙ r))
 
 -- ---- the last item
 
@@ -88,25 +96,25 @@ begun-last h tag true true = refl
 begun-last h tag true false = refl
 begun-last h tag false u = refl
 
-read-last : (x r : ℕ) (m : Reading) (a : Answer) (h : History)
-    → afterNote h (told x (event.Deliver r) m a) .last ≡ cond (isTo x m) (itemAfter a (h .last)) (h .last)
-unfolding isTo
-read-last x r Fault a h = refl
-read-last x r (Found e) a h = deliver-last x (e .addressee) a h
+refused-last : (x : ℕ) (e : Event) (m : Reading) (a : Answer) → isRefused a ≡ true → (h : History)
+    → afterNote h (told x e m a) .last ≡ cond (isTo x m) (itemAfter a (h .last)) (h .last)
+unfolding itemAfter
+refused-last x e m a r h =
+    let w = refused-why a r in
+    ap (λ (t : Note). afterNote h t .last) (told-refused x e m a r) ∙ either (h .last) (isTo x m)
+    ∙ ap (λ (b : Answer). cond (isTo x m) (itemAfter b (h .last)) (h .last)) (sym (w .1))
 
--- the call of an event that answers a
-abbrev pub answered : Event → List ℕ → Answer → Call
-answered e store a = record { event = e; answer = a; message = deliveredBy e store }
-
-pub told-last : (x : ℕ) (e : Event) (store : List ℕ) (a : Answer) (h : History)
-    → afterNote h (told x e (deliveredBy e store) a) .last ≡ lastAfter x (answered e store a) (h .last)
-unfolding deliveredBy lastAfter isTo
-told-last x (event.Write k tag) store a h = begun-last h tag (isOk a) (eqb k x)
-told-last x (event.Retry k) store a h = refl
-told-last x (event.Crash k) store a h = refl
-told-last x (event.Start k) store a h = refl
-told-last x (event.Drop r) store a h = refl
-told-last x (event.Deliver r) store a h = read-last x r (messageIn (recordsOf store) r) a h
+pub told-last : (x : ℕ) {net net′ : Network} {call : Call} → Next net call net′ → (h : History)
+    → afterNote h (toldBy x call) .last ≡ lastAfter x call (h .last)
+unfolding lastAfter isTo itemAfter isRefused
+told-last x (host-refuses e m why z) h = refused-last x e m (answer.Refused why) refl h
+told-last x (node-refuses {e = e} {m = m} {step = step} d a) h = refused-last x e m (step .answer) a h
+told-last x (drops r) h = refl
+told-last x (acts {step = step} (writes k tag b) z) h = begun-last h tag (isOk (step .answer)) (eqb k x)
+told-last x (acts (retries k b) z) h = refl
+told-last x (acts (crashes k b) z) h = refl
+told-last x (acts (starts k b) z) h = refl
+told-last x (acts {step = step} (delivers r p m) z) h = deliver-last x (p .envelope .addressee) (step .answer) h
 
 -- ---- the items begun
 
@@ -119,13 +127,12 @@ returned-begun h i true = refl
 returned-begun h i false = refl
 
 -- a delivery begins nothing
-read-begun : (x r : ℕ) (m : Reading) (a : Answer) (h : History) → afterNote h (told x (event.Deliver r) m a) .begun ≡ h .begun
-read-begun x r Fault a h = refl
-read-begun x r (Found e) answer.Ok h = refl
-read-begun x r (Found e) (answer.Settled i) h = settled-begun h i (eqb (e .addressee) x)
-read-begun x r (Found e) (answer.Accepted i) h = returned-begun h i (eqb (e .addressee) x)
-read-begun x r (Found e) (answer.Stopped row) h = refl
-read-begun x r (Found e) (answer.Refused why) h = refl
+deliver-begun : (x k : ℕ) (a : Answer) (h : History) → afterNote h (noteOf x k a) .begun ≡ h .begun
+deliver-begun x k answer.Ok h = refl
+deliver-begun x k (answer.Settled i) h = settled-begun h i (eqb k x)
+deliver-begun x k (answer.Accepted i) h = returned-begun h i (eqb k x)
+deliver-begun x k (answer.Stopped row) h = refl
+deliver-begun x k (answer.Refused why) h = refl
 
 -- a Write begins the item one above
 write-begun : (h : History) (tag : Tag) (item : Item) (t u : Bool) → List·Memᴰ item (afterNote h (cond t (cond u (begins tag) quiet) quiet) .begun)
@@ -138,30 +145,30 @@ write-begun h tag item true true m = go (List·Memᴰ·cases-cons m)
 write-begun h tag item true false m = inl m
 write-begun h tag item false u m = inl m
 
-pub told-begun : (x : ℕ) (e : Event) (store : List ℕ) (a : Answer) (h : History) (item : Item)
-    → List·Memᴰ item (afterNote h (told x e (deliveredBy e store) a) .begun) → List·Memᴰ item (h .begun) ⊎ List·Memᴰ item (begunAt x e a (h .last))
-unfolding deliveredBy begunAt
-told-begun x (event.Write k tag) store a h item m = write-begun h tag item (isOk a) (eqb k x) m
-told-begun x (event.Retry k) store a h item m = inl m
-told-begun x (event.Crash k) store a h item m = inl m
-told-begun x (event.Start k) store a h item m = inl m
-told-begun x (event.Drop r) store a h item m = inl m
-told-begun x (event.Deliver r) store a h item m =
-    inl (subst (λ (l : List Item). List·Memᴰ item l) (read-begun x r (messageIn (recordsOf store) r) a h) m)
+pub told-begun : (x : ℕ) {net net′ : Network} {call : Call} → Next net call net′ → (h : History) (item : Item)
+    → List·Memᴰ item (afterNote h (toldBy x call) .begun) → List·Memᴰ item (h .begun) ⊎ List·Memᴰ item (begunAt x (call .event) (call .answer) (h .last))
+unfolding begunAt isRefused
+told-begun x (host-refuses e m why z) h item j = inl (subst (λ (t : Note). List·Memᴰ item (afterNote h t .begun)) (told-refused x e m (answer.Refused why) refl) j)
+told-begun x (node-refuses {e = e} {m = m} {step = step} d a) h item j =
+    inl (subst (λ (t : Note). List·Memᴰ item (afterNote h t .begun)) (told-refused x e m (step .answer) a) j)
+told-begun x (drops r) h item j = inl j
+told-begun x (acts {step = step} (writes k tag b) z) h item j = write-begun h tag item (isOk (step .answer)) (eqb k x) j
+told-begun x (acts (retries k b) z) h item j = inl j
+told-begun x (acts (crashes k b) z) h item j = inl j
+told-begun x (acts (starts k b) z) h item j = inl j
+told-begun x (acts {step = step} (delivers r p m) z) h item j =
+    inl (subst (λ (l : List Item). List·Memᴰ item l) (deliver-begun x (p .envelope .addressee) (step .answer) h) j)
 
 -- ---- a return
 
-read-returns : (x r : ℕ) (m : Reading) (item : Item) → isTo x m ≡ true → told x (event.Deliver r) m (answer.Accepted item) ≡ returns item
+pub told-returns : (x : ℕ) {net net′ : Network} {call : Call} → Next net call net′ → (item : Item) → ReturnsWith x item call → toldBy x call ≡ returns item
 unfolding isTo
-read-returns x r Fault item e = absurd (false≢true e)
-read-returns x r (Found m) item e = ap (λ (t : Bool). cond t (returns item) quiet) e
-
-pub told-returns : (x : ℕ) (e : Event) (store : List ℕ) (item : Item) → isTo x (deliveredBy e store) ≡ true
-    → told x e (deliveredBy e store) (answer.Accepted item) ≡ returns item
-unfolding deliveredBy isTo
-told-returns x (event.Write k tag) store item e = absurd (false≢true e)
-told-returns x (event.Retry k) store item e = absurd (false≢true e)
-told-returns x (event.Crash k) store item e = absurd (false≢true e)
-told-returns x (event.Start k) store item e = absurd (false≢true e)
-told-returns x (event.Drop r) store item e = absurd (false≢true e)
-told-returns x (event.Deliver r) store item e = read-returns x r (messageIn (recordsOf store) r) item e
+told-returns x (host-refuses e m why z) item R = let a = R .accepted in clash (cc)
+told-returns x (node-refuses {step = step} d a) item R = refused-not-accepted (step .answer) item a (R .accepted)
+told-returns x (drops r) item R = let a = R .accepted in clash (cc)
+told-returns x (acts (writes k tag b) z) item R = absurd (false≢true (R .at-x))
+told-returns x (acts (retries k b) z) item R = absurd (false≢true (R .at-x))
+told-returns x (acts (crashes k b) z) item R = absurd (false≢true (R .at-x))
+told-returns x (acts (starts k b) z) item R = absurd (false≢true (R .at-x))
+told-returns x (acts (delivers r p m) z) item R =
+    ap (noteOf x (p .envelope .addressee)) (R .accepted) ∙ ap (λ (t : Bool). cond t (returns item) quiet) (R .at-x)

@@ -1,6 +1,6 @@
 -- Answers and refusals: document 01's number of each refusal, by one definition, and the two shapes of a decision.
 use Prim.Native.Nat.{ℕ}
-use Rattle.item.specs.declared.Item.{Item}
+use mathlib.Core.Bool.{Bool, true, false}
 use Rattle.message.specs.declared.Message.{Message}
 use Rattle.protocol.specs.declared.Answer.{Answer}
 use Rattle.protocol.specs.declared.Answer.the-variants as answer
@@ -27,6 +27,22 @@ refusalNumber Counted = 11
 refusalNumber LowerRank = 12
 refusalNumber OtherTag = 13
 
+-- the refusals that a node's decision gives (5, 6, 9 to 13); the others (1 to 4, 7, 8) are the host's and the store's
+unfoldable pub byDecision : Refusal → Bool
+byDecision GroupSize = false
+byDecision StoreLength = false
+byDecision Unsound = false
+byDecision NoNode = false
+byDecision WrongStage = true
+byDecision AtLargest = true
+byDecision NoRoom = false
+byDecision NoMessage = false
+byDecision NotTaken = true
+byDecision Stale = true
+byDecision Counted = true
+byDecision LowerRank = true
+byDecision OtherTag = true
+
 -- "A refusal changes no byte": the node as it was, and nothing sent
 unfoldable pub refused : Node → Refusal → Step
 refused node why = record { answer = answer.Refused why; node = node; sends = sends.Nothing }
@@ -34,3 +50,10 @@ refused node why = record { answer = answer.Refused why; node = node; sends = se
 -- "Everything else answers "ok""
 unfoldable pub ok : Node → Sends → Step
 ok node sends = record { answer = answer.Ok; node = node; sends = sends }
+
+unfoldable pub isRefused : Answer → Bool
+isRefused answer.Ok = false
+isRefused (answer.Settled item) = false
+isRefused (answer.Accepted item) = false
+isRefused (answer.Stopped row) = false
+isRefused (answer.Refused why) = true

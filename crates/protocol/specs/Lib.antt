@@ -10,7 +10,7 @@ pub mod Outgoing
 pub mod Sound
 pub mod Table
 pub mod TableLaws
-pub mod Operation
-pub mod Run
-pub mod Refusal
+pub mod Call
+pub mod Network
 pub mod Claim
+pub mod Example

@@ -2,7 +2,7 @@
 -- changes in its arguments; the others are handed on.
 use Prim.Native.Nat.{ℕ, zero, suc, _/_}
 use mathlib.Core.Bool.{Bool, true, false, cond}
-use mathlib.Core.List.{List, [], _∷_}
+use mathlib.Core.List.{List, [], _∷_, map}
 use lib.Dec.{ltb}
 use lib.ListN.{getD, set, replicate}
 use Rattle.item.specs.Maxima.{maxNodes}
@@ -188,3 +188,7 @@ withRows node rows =
 -- Set up: "all nodes Up and Idle, incarnation 1, attempt 0, rows zero"
 unfoldable pub freshNode : ℕ → ℕ → Node
 freshNode number n = writeEnded (blankNode number n (record { 0 = 1 }))
+
+-- the items of a node's rows: "Table with all rows"
+unfoldable pub rowItems : Node → List Item
+rowItems node = map (λ row. row .item) (node .rows)

@@ -1,5 +1,5 @@
-// The protocol: the types of a node, its events and answers, and in specs/ the definition of every decision. Hardly
-// any code is here; the crates above decide as these definitions say.
+// The protocol: the types of a node, its events and answers; in specs/ the definition of every decision of a node and of
+// the network that such nodes make; the theorem on its runs. The crates above decide as these definitions say.
 use item::Attempt;
 use item::Incarnation;
 use item::Item;
@@ -7,9 +7,10 @@ use item::Row;
 use item::Tag;
 use message::Message;
 ghost use mathlib.Core.Path.{_≡_};
-ghost use Rattle.protocol.specs.Claim.{EveryReturn};
+ghost use Rattle.protocol.specs.Claim.{EveryNetworkReturn};
+ghost use Rattle.protocol.specs.Example.{ReturnReached};
+ghost use Rattle.protocol.specs.Network.{NodeRefusals};
 ghost use Rattle.protocol.specs.Node.{blankNode, noPeer};
-ghost use Rattle.protocol.specs.Refusal.{RefusalsChangeNothing};
 
 // How far the present write has come.
 pub enum Stage {
@@ -173,14 +174,18 @@ impl Node {
     }
 }
 
-// Demand 1, of every operation on any table and store: a refused call leaves both as they were, and its number is one
-// that document 01 lists for it.
-pub fn refusals_change_nothing()
-    ensures { λ r. ⌜ RefusalsChangeNothing ⌝ }
+// Of the refusals in a run, 5, 6 and 9 to 13 are a node's own, and it gives no other.
+pub fn node_refusals()
+    ensures { λ r. ⌜ NodeRefusals ⌝ }
 {}
 
-// Demand 3, of every run from an accepted set-up: a node that returns names its last item, or an item of the next index
-// that it had itself begun.
-pub fn every_return()
-    ensures { λ r. ⌜ EveryReturn ⌝ }
+// Demand 3 of nodes on machines of their own, whatever becomes of the messages between them: a node that returns names its
+// last item, or an item of the next index that it had itself begun.
+pub fn every_network_return()
+    ensures { λ r. ⌜ EveryNetworkReturn ⌝ }
+{}
+
+// It is not empty: a run in which a node returns, computed from the definitions.
+pub fn return_reached()
+    ensures { λ r. ⌜ ReturnReached ⌝ }
 {}

@@ -10,8 +10,8 @@ use Rattle.endian.specs.Zero.{allZero}
 use Rattle.kinds.specs.Kind.{tableKind}
 use Rattle.layout.specs.Layout.{recordSize, kindAt, rowsAt, rowSize}
 use Rattle.record.specs.Record.{readRecord}
-use Rattle.record.specs.declared.Reading.{Reading}
-use Rattle.record.specs.declared.Reading.the-variants.{Found, Fault}
+use Rattle.message.specs.declared.Reading.{Reading}
+use Rattle.message.specs.declared.Reading.the-variants.{Found, Fault}
 
 unfoldable pub isFound : Reading → Bool
 isFound Fault = false

@@ -19,8 +19,8 @@ use Rattle.kinds.specs.declared.Known.the-variants as known
 use Rattle.layout.specs.Layout.{recordSize, kindAt, rowsAt, rowSize, fieldsIn}
 use Rattle.record.specs.Record.{readRecord, readAs, zeroAfterRows, envelopeOf}
 use Rattle.record.specs.RoundTrip.{fields-again}
-use Rattle.record.specs.declared.Reading.{Reading}
-use Rattle.record.specs.declared.Reading.the-variants.{Found, Fault}
+use Rattle.message.specs.declared.Reading.{Reading}
+use Rattle.message.specs.declared.Reading.the-variants.{Found, Fault}
 use Rattle.kinds_read.specs.Known.{isKnown}
 use Rattle.readable.specs.Readable.{isFound, readable, rowsOfKind, zeroAfterKind}
 

@@ -12,8 +12,8 @@ use Rattle.endian.specs.Zero.{zeros, allZero}
 use Rattle.kinds.specs.declared.Fields.{Fields}
 use Rattle.kinds.specs.declared.Known.{Known}
 use Rattle.kinds.specs.declared.Known.the-variants as known
-use Rattle.record.specs.declared.Reading.{Reading}
-use Rattle.record.specs.declared.Reading.the-variants.{Found, Fault}
+use Rattle.message.specs.declared.Reading.{Reading}
+use Rattle.message.specs.declared.Reading.the-variants.{Found, Fault}
 use Rattle.layout.specs.Layout.{recordSize, rowsAt, rowSize, nextAt, kindAt, fieldsIn, layoutBytes}
 use Rattle.kinds.specs.Kind.{fieldsOf, messageOf, rowsHeld}
 pub use Rattle.layout.specs.Layout.{heldRows}

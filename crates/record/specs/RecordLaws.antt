@@ -17,7 +17,7 @@ use Rattle.record.specs.Layout.{recordOf, withRecord}
 use Rattle.message.specs.declared.Message.{Message}
 use Rattle.kinds.specs.declared.Fields.{Fields}
 use Rattle.kinds.specs.declared.Known.the-variants as known
-use Rattle.record.specs.declared.Reading.the-variants.{Found}
+use Rattle.message.specs.declared.Reading.the-variants.{Found}
 use Rattle.layout.specs.Layout.{recordSize, kindAt, fieldsIn}
 use Rattle.kinds.specs.Kind.{messageOf}
 use Rattle.record.specs.Record.{readRecord, readAs, zeroAfterRows, envelopeOf}

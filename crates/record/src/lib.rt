@@ -1,18 +1,10 @@
 // One record of the message store: its definitions, and the theorems that reading and writing undo each other. By them the
 // crates `record_read` and `record_rows` read a record, `record_write` writes one, and `links` keeps its link. Everything
 // is proved, and no public function has a `requires`.
-use message::Envelope;
 ghost use Rattle.record.specs.RoundTrip.{ReadsBack, WritesBack, Differ};
 
 // The bytes of a record.
 pub const SIZE: usize = layout::SIZE;
-
-// What reading a record gives.
-pub enum Reading {
-    Found(Envelope),
-    // No message: an unknown kind, or an unused byte that is not 0.
-    Fault,
-}
 
 // Reading what was written gives it back: the message, its rows with zero items after them, and next.
 pub fn reads_back()

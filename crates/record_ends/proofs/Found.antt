@@ -7,8 +7,8 @@ use Rattle.kinds.specs.Kind.{fieldsOf}
 use Rattle.kinds.specs.declared.Fields.{Fields}
 use Rattle.layout.specs.Layout.{fieldsIn}
 use Rattle.record.specs.Record.{readRecord}
-use Rattle.record.specs.declared.Reading.{Reading}
-use Rattle.record.specs.declared.Reading.the-variants as reading
+use Rattle.message.specs.declared.Reading.{Reading}
+use Rattle.message.specs.declared.Reading.the-variants as reading
 use Rattle.readable.specs.Readable.{isFound, readable}
 use Rattle.readable.specs.ReadableLaws.{fields-found}
 use Rattle.record_ends.specs.Ends.{endsOf}

@@ -1,6 +1,6 @@
 -- The sender and the addressee of the message in a record, where it is one.
-use Rattle.record.specs.declared.Reading.{Reading}
-use Rattle.record.specs.declared.Reading.the-variants as reading
+use Rattle.message.specs.declared.Reading.{Reading}
+use Rattle.message.specs.declared.Reading.the-variants as reading
 use Rattle.record_ends.specs.declared.Ends.{Ends}
 use Rattle.record_ends.specs.declared.Ends.the-variants as ends
 

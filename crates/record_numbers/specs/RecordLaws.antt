@@ -21,7 +21,7 @@ use Rattle.numbers.specs.ReadBack.{bytes-straight}
 use Rattle.record.specs.Layout.{recordSize, recordOf, withRecord}
 use Rattle.record.specs.Record.{readRecord}
 use Rattle.record.specs.RecordLaws.{record-none, length-record-of, record-lent, record-back}
-use Rattle.record.specs.declared.Reading.{Reading}
+use Rattle.message.specs.declared.Reading.{Reading}
 use Rattle.readable.specs.Readable.{readable}
 use Rattle.readable.specs.ReadableLaws.{holds}
 use Rattle.record_numbers.specs.Records.{mayRead, numbersRead, mayWrite, bytesWritten}

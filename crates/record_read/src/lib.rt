@@ -3,7 +3,7 @@
 // nothing, whatever number is handed in.
 use kinds::Known;
 use message::Envelope;
-use record::Reading;
+use message::Reading;
 use record::SIZE;
 ghost use mathlib.Core.Path.{_≡_};
 ghost use lib.ListN.{length};

@@ -24,7 +24,7 @@ use Rattle.store.specs.Chain.{beforeFrom, nextIn}
 use Rattle.store.specs.Change.{withNextIn, appended, taken, putIn, putEach, unlinked, freed, dropIn, freeRecords, emptyHead, emptyRecords}
 use Rattle.store.specs.Head.{sizeAt, firstFree, firstOf, groupSize, withFirstFree, withFirstOf}
 use Rattle.store.specs.Records.{recordCount, recordIn, recordsOf, joined}
-use Rattle.protocol.proofs.Fitting.{set-any}
+use Rattle.operations.proofs.Fitting.{set-any}
 
 -- ---- lists of bytes
 

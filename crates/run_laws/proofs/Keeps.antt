@@ -18,8 +18,8 @@ use Rattle.message.specs.declared.Envelope.{Envelope}
 use Rattle.message.specs.declared.Outgoing.{Outgoing}
 use Rattle.record.specs.Record.{readRecord, recordBytes}
 use Rattle.record.specs.RoundTrip.{Fits, RowsFit, ReadsBack, reads-back}
-use Rattle.record.specs.declared.Reading.{Reading}
-use Rattle.record.specs.declared.Reading.the-variants.{Found, Fault}
+use Rattle.message.specs.declared.Reading.{Reading}
+use Rattle.message.specs.declared.Reading.the-variants.{Found, Fault}
 use Rattle.store.specs.Change.{putEach, countOutgoing, dropIn}
 use Rattle.store.specs.Head.{groupSize}
 use Rattle.store.specs.Locality.{put-each-local, drop-local}
@@ -32,9 +32,11 @@ use Rattle.chains.specs.Put.{ForGroup}
 use Rattle.chains.specs.PutEach.{AllForGroup, put-each-done}
 use Rattle.chains.specs.Sound.{store-right, store-sound}
 use Rattle.chains.specs.Widths.{for-group}
-use Rattle.protocol.specs.Claim.{TagFits}
+use Rattle.operations.specs.Claim.{TagFits}
 use Rattle.protocol.specs.Deliver.{deliverStep}
-use Rattle.protocol.specs.Operation.{refuse, isRefused, rowItems, sentBy, carriedOut, atNode, dropped, delivered, onSound, onRecords, perform}
+use Rattle.operations.specs.Operation.{refuse, sentBy, carriedOut, atNode, dropped, delivered, onSound, onRecords, perform}
+use Rattle.protocol.specs.Answer.{isRefused}
+use Rattle.protocol.specs.Node.{rowItems}
 use Rattle.protocol.specs.Outgoing.{outgoing}
 use Rattle.protocol.specs.Sound.{soundNode}
 use Rattle.protocol.specs.Table.{noNode, nodeAt, soundTable}
@@ -45,13 +47,14 @@ use Rattle.protocol.specs.declared.Event.{Event}
 use Rattle.protocol.specs.declared.Event.the-variants as event
 use Rattle.protocol.specs.declared.Node.{Node}
 use Rattle.protocol.specs.declared.Step.{Step}
-use Rattle.protocol.proofs.Fitting.{NodeFits, StepFits, set-any, write-fits, retry-fits, crash-fits, start-fits}
-use Rattle.protocol.proofs.FittingDelivery.{deliver-fits}
-use Rattle.protocol.proofs.Inbox.{Addressed, in-inbox, message-read}
+use Rattle.operations.proofs.Fitting.{NodeFits, StepFits, set-any, write-fits, retry-fits, crash-fits, start-fits}
+use Rattle.operations.proofs.FittingDelivery.{deliver-fits}
+use Rattle.run_laws.proofs.Inbox.{Addressed, in-inbox}
+use Rattle.operations.proofs.Inbox.{message-read}
 use Rattle.protocol.proofs.InView.{Shaped, number-is, size-is, size-fits}
-use Rattle.protocol.proofs.Sent.{outgoing-fits, rows-fit, node-items-fit}
+use Rattle.operations.proofs.Sent.{outgoing-fits, rows-fit, node-items-fit}
 use Rattle.protocol.proofs.Shapes.{write-shaped, retry-shaped, crash-shaped, start-shaped, deliver-shaped}
-use Rattle.protocol.proofs.Stands.{StoreOf, store-after}
+use Rattle.operations.proofs.Represents.{StoreOf, store-after}
 use Rattle.node_laws.specs.Decision.{Write, Retry, Crash, Start, Deliver, decide, Stands, Comes, MayCome}
 use Rattle.node_laws.specs.Laws.{SoundStaysSound}
 use Rattle.node_laws.proofs.Every.{every-set}

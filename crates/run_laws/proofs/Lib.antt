@@ -1,3 +1,4 @@
+pub mod Inbox
 pub mod Bytes
 pub mod Messages
 pub mod Going

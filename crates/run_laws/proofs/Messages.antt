@@ -30,9 +30,9 @@ use Rattle.message.specs.declared.Message.{Message}
 use Rattle.message.specs.declared.Message.the-variants as message
 use Rattle.record.specs.Record.{zeroAfterRows, readAs, readRecord}
 use Rattle.record.specs.RoundTrip.{ItemFits}
-use Rattle.record.specs.declared.Reading.{Reading}
-use Rattle.record.specs.declared.Reading.the-variants.{Found, Fault}
-use Rattle.protocol.proofs.Fitting.{CounterFits, MessageFits, zero-fits}
+use Rattle.message.specs.declared.Reading.{Reading}
+use Rattle.message.specs.declared.Reading.the-variants.{Found, Fault}
+use Rattle.operations.proofs.Fitting.{CounterFits, MessageFits, zero-fits}
 
 -- ---- numbers of bytes, and of zero bytes
 

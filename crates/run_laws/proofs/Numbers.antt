@@ -9,15 +9,15 @@ use lib.Dec.{leb, ltb}
 use borrow.Author.Tests.{leb-true}
 use Rattle.item.specs.Tests.{by-cond, and-left, and-right}
 use Rattle.layout.specs.Layout.{rowsOf}
-use Rattle.record.specs.declared.Reading.{Reading}
-use Rattle.record.specs.declared.Reading.the-variants.{Found, Fault}
+use Rattle.message.specs.declared.Reading.{Reading}
+use Rattle.message.specs.declared.Reading.the-variants.{Found, Fault}
 use Rattle.store.specs.Change.{countOutgoing}
 use Rattle.store.specs.Head.{groupSize}
 use Rattle.store.specs.Records.{recordIn}
 use Rattle.store.specs.Sound.{freeCount, messageIn}
-use Rattle.protocol.specs.Answer.{refusalNumber}
+use Rattle.protocol.specs.Answer.{refusalNumber, isRefused}
 use Rattle.protocol.specs.Deliver.{deliverStep}
-use Rattle.protocol.specs.Operation.{Result, refuse, isRefused, sentBy, carriedOut, atNode, dropped, delivered, onSound}
+use Rattle.operations.specs.Operation.{Result, refuse, sentBy, carriedOut, atNode, dropped, delivered, onSound}
 use Rattle.protocol.specs.Outgoing.{outgoing}
 use Rattle.protocol.specs.Table.{nodeAt}
 use Rattle.protocol.specs.Write.{writeStep, retryStep, crashStep, startStep}
@@ -29,7 +29,7 @@ use Rattle.protocol.specs.declared.Node.{Node}
 use Rattle.protocol.specs.declared.Refusal.{Refusal}
 use Rattle.protocol.specs.declared.Refusal.the-variants.{NoNode, NoRoom, NoMessage}
 use Rattle.protocol.specs.declared.Step.{Step}
-use Rattle.protocol.proofs.Deciding.{Decides, ofNode, ofMessage, write-decides, retry-decides, start-decides, crash-decides, on-message-decides}
+use Rattle.protocol.proofs.Deciding.{RefusesBy, ofNode, ofMessage, write-refuses, retry-refuses, start-refuses, crash-refuses, on-message-refuses}
 
 -- numbers from 4 on
 allAbove : List ℕ → Bool
@@ -58,7 +58,7 @@ unfolding isRefused
 no-refusal a h why e = absurd (false≢true (sym h ∙ ap isRefused e))
 
 module _ (table : List Node) (store : List ℕ) (rs : List (List ℕ)) where
-  carried-above : (numbers : List ℕ) → allAbove numbers ≡ true → (k back : ℕ) (step : Step) → Decides numbers step
+  carried-above : (numbers : List ℕ) → allAbove numbers ≡ true → (k back : ℕ) (step : Step) → RefusesBy numbers step
       → Above (carriedOut table store rs k back step)
   unfolding carriedOut sentBy refusalNumber
   carried-above numbers a k back step h =
@@ -67,7 +67,7 @@ module _ (table : List Node) (store : List ℕ) (rs : List (List ℕ)) where
       (λ z. by-cond Above (ltb (freeCount rs) (countOutgoing (outgoing (step .node) (step .sends) back))) _ _
       (λ _. by-refuse NoRoom table store (omega arith)) (λ _. no-refusal (step .answer) z))
 
-  at-node-above : (numbers : List ℕ) → allAbove numbers ≡ true → (decide : Node → Step) (k : ℕ) → Decides numbers (decide (nodeAt table k))
+  at-node-above : (numbers : List ℕ) → allAbove numbers ≡ true → (decide : Node → Step) (k : ℕ) → RefusesBy numbers (decide (nodeAt table k))
       → Above (atNode decide k table store rs)
   unfolding atNode refusalNumber
   at-node-above numbers a decide k h =
@@ -85,13 +85,13 @@ module _ (table : List Node) (store : List ℕ) (rs : List (List ℕ)) where
   delivered-above r Fault = by-refuse NoMessage table store (omega arith)
   delivered-above r (Found e) =
       carried-above ofMessage refl (e .addressee) (e .sender) _
-      (on-message-decides (e .message) (nodeAt table (e .addressee)) (e .sender) (e .incarnation) (rowsOf (recordIn rs r)))
+      (on-message-refuses (e .message) (nodeAt table (e .addressee)) (e .sender) (e .incarnation) (rowsOf (recordIn rs r)))
 
   pub on-sound-above : (e : Event) → Above (onSound e table store rs)
   unfolding onSound allAbove
-  on-sound-above (event.Write k tag) = at-node-above ofNode refl (λ node. writeStep node tag) k (write-decides (nodeAt table k) tag)
-  on-sound-above (event.Retry k) = at-node-above ofNode refl retryStep k (retry-decides (nodeAt table k))
-  on-sound-above (event.Crash k) = at-node-above (5 ∷ []) refl crashStep k (crash-decides (nodeAt table k))
-  on-sound-above (event.Start k) = at-node-above ofNode refl startStep k (start-decides (nodeAt table k))
+  on-sound-above (event.Write k tag) = at-node-above ofNode refl (λ node. writeStep node tag) k (write-refuses (nodeAt table k) tag)
+  on-sound-above (event.Retry k) = at-node-above ofNode refl retryStep k (retry-refuses (nodeAt table k))
+  on-sound-above (event.Crash k) = at-node-above (5 ∷ []) refl crashStep k (crash-refuses (nodeAt table k))
+  on-sound-above (event.Start k) = at-node-above ofNode refl startStep k (start-refuses (nodeAt table k))
   on-sound-above (event.Drop r) = dropped-above r (messageIn rs r)
   on-sound-above (event.Deliver r) = delivered-above r (messageIn rs r)

@@ -17,25 +17,28 @@ use Rattle.store.specs.Records.{recordCount, recordsOf, joined}
 use Rattle.store.specs.Sound.{soundRecords, soundStore}
 use Rattle.chains.specs.Empty.{set-up-done}
 use Rattle.protocol.specs.Answer.{refusalNumber}
-use Rattle.protocol.specs.Claim.{TagsFit}
+use Rattle.operations.specs.Claim.{TagsFit}
 use Rattle.protocol.specs.Node.{blankNode, freshNode, writeEnded, countPeers}
-use Rattle.protocol.specs.Operation.{Result, setUp, perform}
+use Rattle.operations.specs.Operation.{Result, setUp, perform}
 use Rattle.protocol.specs.Phase.{isConfirming, isConfirmingStage}
-use Rattle.protocol.specs.Run.{Call, callOf, calls}
+use Rattle.protocol.specs.Call.{Call}
+use Rattle.operations.specs.Run.{callOf, calls, left}
 use Rattle.protocol.specs.Sound.{everyFrom, rowUse, rowSound, attemptFits, phaseCounts, stageCounts, countedAsked, soundNode}
-use Rattle.protocol.specs.Table.{freshNodes, freshTable, soundTable}
+use Rattle.protocol.specs.Table.{noNode, freshNodes, freshTable, soundTable}
 use Rattle.protocol.specs.declared.Answer.the-variants as answer
 use Rattle.protocol.specs.declared.Event.{Event}
 use Rattle.protocol.specs.declared.Node.{Node}
 use Rattle.protocol.specs.declared.Refusal.{Refusal}
 use Rattle.protocol.specs.declared.RowUse.the-variants as row-use
-use Rattle.protocol.proofs.InView.{size-fits}
-use Rattle.protocol.proofs.Start.{SetUpTo, set-up-is, firstNodes, first-stands}
-use Rattle.protocol.proofs.Stands.{Stands}
+use Rattle.protocol.proofs.Grouped.{each-fresh}
+use Rattle.protocol.proofs.InView.{Shaped, size-fits}
+use Rattle.protocol.proofs.Shapes.{fresh-shaped}
+use Rattle.operations.proofs.Start.{SetUpTo, set-up-is, first-represents}
+use Rattle.operations.proofs.Represents.{Represents}
 use Rattle.node_laws.proofs.Every.{every-same}
 use Rattle.node_laws.proofs.Soundly.{is-sound, none-sound}
 use Rattle.node_laws.proofs.SoundRows.{zero-sound}
-use Rattle.run_laws.specs.Laws.{areSound, SoundGroup, LeavesSound, SetUpIsSound, SoundStaysSound, left, RunsStaySound, NeverUnsound}
+use Rattle.run_laws.specs.Laws.{areSound, SoundGroup, LeavesSound, SetUpIsSound, SoundStaysSound, RunsStaySound, NeverUnsound}
 use Rattle.run_laws.proofs.Bytes.{empty-records-bytes, joined-bytes}
 use Rattle.run_laws.proofs.Keeps.{performed-is, performs}
 use Rattle.run_laws.proofs.Numbers.{Above, on-sound-above}
@@ -70,10 +73,14 @@ fresh-table : (n : ℕ) → soundTable n (freshTable n) ≡ true
 unfolding soundTable freshTable
 fresh-table n = and-both (eq-eqb (length (freshNodes n 0 n)) n (fresh-length n 0 n)) (fresh-every n 0 n)
 
+no-node-shaped : Shaped noNode
+unfolding noNode blankNode
+no-node-shaped = record { rows-length = refl; counted-length = refl; asked-length = refl }
+
 fresh-sound : (n : ℕ) → validSize n ≡ true → SoundGroup n (freshTable n) (joined (emptyRecords recordCount n))
 unfolding areSound soundStore
 fresh-sound n v =
-    let S : Stands n 0 (freshTable n) (joined (emptyRecords recordCount n)) (record { node = firstNodes n 0; sent = [] }) = first-stands n 0 in
+    let S : Represents n (freshTable n) (joined (emptyRecords recordCount n)) [] = first-represents n in
     let e : recordsOf (joined (emptyRecords recordCount n)) ≡ emptyRecords recordCount n
     = records-joined (emptyRecords recordCount n) (length-empty recordCount n) (empty-sized recordCount n) in
     let most : n ≤ maxNodes = size-fits n v in
@@ -82,7 +89,7 @@ fresh-sound n v =
       sound = and-both (and-both (S .store-of .right) (ap soundRecords e ∙ set-up-done n v .sound .is-sound))
           (subst (λ (i : ℕ). soundTable i (freshTable n) ≡ true) (sym (S .store-of .size)) (fresh-table n));
       within = record {
-        shaped = S .shaped;
+        shaped = each-fresh Shaped n (λ k. fresh-shaped k n) no-node-shaped;
         fit = S .fit;
         bytes = joined-bytes (emptyRecords recordCount n) (empty-records-bytes recordCount n (omega arith));
       };

@@ -6,9 +6,10 @@ use mathlib.Core.Logic.{_≢_}
 use mathlib.Core.Bool.{Bool, true, _&&_}
 use mathlib.Core.List.{List, [], _∷_, List·Memᴰ}
 use Rattle.protocol.specs.Answer.{refusalNumber}
-use Rattle.protocol.specs.Claim.{TagFits, TagsFit}
-use Rattle.protocol.specs.Operation.{Result, setUp, perform}
-use Rattle.protocol.specs.Run.{Call, calls}
+use Rattle.operations.specs.Claim.{TagFits, TagsFit}
+use Rattle.operations.specs.Operation.{Result, setUp, perform}
+use Rattle.protocol.specs.Call.{Call}
+use Rattle.operations.specs.Run.{calls, left}
 use Rattle.protocol.specs.Table.{soundTable}
 use Rattle.protocol.specs.declared.Answer.the-variants as answer
 use Rattle.protocol.specs.declared.Event.{Event}
@@ -42,12 +43,6 @@ unfoldable pub SoundStaysSound : Type 0
 SoundStaysSound =
     (n : ℕ) (table : List Node) (store : List ℕ) → SoundGroup n table store →
     (e : Event) → TagFits e → LeavesSound n (perform e table store)
-
--- "The first call gets table and store as Set up left them, each later one as the call before left them": the result of the
--- last of a list of events, or of what was before them
-unfoldable pub left : Result → List Event → Result
-left result [] = result
-left result (e ∷ es) = left (perform e (result .table) (result .store)) es
 
 -- in a run they are sound after any list of events
 unfoldable pub RunsStaySound : Type 0

@@ -5,7 +5,7 @@ use mathlib.Core.List.{List}
 use Rattle.endian.specs.Number.{AreBytes}
 use Rattle.protocol.specs.Table.{nodeAt}
 use Rattle.protocol.specs.declared.Node.{Node}
-use Rattle.protocol.proofs.Fitting.{NodeFits}
+use Rattle.operations.proofs.Fitting.{NodeFits}
 use Rattle.protocol.proofs.InView.{Shaped}
 
 pub record Within (table : List Node) (store : List ℕ) : Type 0 where

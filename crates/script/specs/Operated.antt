@@ -3,7 +3,7 @@ use Prim.Native.Nat.{ℕ}
 use mathlib.Core.Bool.{cond}
 use mathlib.Core.List.{List, _++_}
 use lib.ListN.{take, drop}
-use Rattle.protocol.specs.Operation.{Result, setUp, perform}
+use Rattle.operations.specs.Operation.{Result, setUp, perform}
 use Rattle.protocol.specs.declared.Node.{Node}
 use Rattle.script.specs.declared.Asked.{Asked}
 

@@ -13,7 +13,7 @@ use Rattle.item.specs.Tests.{by-cond}
 use Rattle.item.specs.declared.Item.{Item}
 use Rattle.item.specs.declared.Row.{Row}
 use Rattle.message.specs.declared.Outgoing.{Outgoing}
-use Rattle.protocol.specs.Operation.{rowItems}
+use Rattle.protocol.specs.Node.{rowItems}
 use Rattle.protocol.specs.Outgoing.{outgoingTo, outgoingFrom}
 use Rattle.store.specs.Change.{countOutgoing}
 use Rattle.protocol.specs.declared.Node.{Node}

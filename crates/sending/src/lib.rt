@@ -15,7 +15,7 @@ ghost use mathlib.Core.Bool.{cond};
 ghost use Prim.Native.Nat.{_≤_};
 ghost use Rattle.message.specs.declared.Message.the-variants.{Confirm};
 ghost use Rattle.protocol.specs.Node.{peerOf};
-ghost use Rattle.protocol.specs.Operation.{rowItems};
+ghost use Rattle.protocol.specs.Node.{rowItems};
 ghost use Rattle.protocol.specs.Outgoing.{goesTo, messageTo, outgoingTo, outgoing};
 ghost use Rattle.store.specs.Change.{countOutgoing};
 

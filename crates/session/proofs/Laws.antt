@@ -21,7 +21,7 @@ use Rattle.progress.specs.Turn.{Done, answered, begun, called, lineDone, lineFo
 use Rattle.progress.specs.declared.Drill.{Drill}
 use Rattle.progress.specs.declared.Progress.{Progress}
 use Rattle.progress.specs.declared.Turn.{Turn}
-use Rattle.protocol.specs.Operation.{Result}
+use Rattle.operations.specs.Operation.{Result}
 use Rattle.protocol.specs.declared.Answer.{Answer}
 use Rattle.protocol.specs.declared.Node.{Node}
 use Rattle.script.specs.declared.Line.{Line}

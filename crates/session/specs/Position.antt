@@ -14,7 +14,7 @@ use Rattle.pending.specs.declared.Pending.{Pending}
 use Rattle.progress.specs.Feeding.{pendingOutput, progressOutput, Counted}
 use Rattle.progress.specs.Turn.{sizeAfter}
 use Rattle.progress.specs.declared.Progress.{Progress}
-use Rattle.protocol.specs.Operation.{Result}
+use Rattle.operations.specs.Operation.{Result}
 use Rattle.protocol.specs.declared.Answer.{Answer}
 use Rattle.protocol.specs.declared.Event.the-variants as event
 use Rattle.protocol.specs.declared.Node.{Node}

@@ -22,8 +22,8 @@ use Rattle.endian.specs.ZeroLaws.{length-zeros, zeros-are-zero}
 use Rattle.kinds.specs.declared.Fields.{Fields}
 use Rattle.kinds.specs.declared.Known.{Known}
 use Rattle.kinds.specs.declared.Known.the-variants as known
-use Rattle.record.specs.declared.Reading.{Reading}
-use Rattle.record.specs.declared.Reading.the-variants.{Found, Fault}
+use Rattle.message.specs.declared.Reading.{Reading}
+use Rattle.message.specs.declared.Reading.the-variants.{Found, Fault}
 use Rattle.record.specs.Layout.{recordSize, nextAt, kindAt, addressAt, incarnationAt, otherAt, attemptAt, itemAt, rowsAt, rowSize, indexSize, itemIn, itemsIn, fieldsIn, rowsOf, nextOf}
 use Rattle.record.specs.Kind.{messageOf, rowsHeld}
 use Rattle.message.specs.declared.Envelope.{Envelope}

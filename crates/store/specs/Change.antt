@@ -12,8 +12,8 @@ use Rattle.message.specs.declared.Envelope.{Envelope}
 use Rattle.message.specs.declared.Outgoing.{Outgoing}
 use Rattle.record.specs.Layout.{recordSize, nextAt}
 use Rattle.record.specs.Record.{recordBytes, withNext, noRecord}
-use Rattle.record.specs.declared.Reading.{Reading}
-use Rattle.record.specs.declared.Reading.the-variants.{Found, Fault}
+use Rattle.message.specs.declared.Reading.{Reading}
+use Rattle.message.specs.declared.Reading.the-variants.{Found, Fault}
 use Rattle.store.specs.Records.{recordCount, recordIn, joined, onRecords}
 use Rattle.store.specs.Head.{sizeAt, firstFree, groupSize, firstOf, withFirstFree, withFirstOf}
 use Rattle.store.specs.Chain.{nextIn, lastFrom, beforeFrom}

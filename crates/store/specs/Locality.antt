@@ -18,7 +18,7 @@ use Rattle.message.specs.declared.Outgoing.{Outgoing}
 use Rattle.endian.specs.PartLaws.{by-order}
 use Rattle.endian.specs.Number.{withNumber}
 use Rattle.endian.specs.NumberLaws.{length-with-number}
-use Rattle.record.specs.declared.Reading.the-variants.{Fault}
+use Rattle.message.specs.declared.Reading.the-variants.{Fault}
 use Rattle.record.specs.Layout.{recordSize, rowsOf}
 use Rattle.record.specs.Record.{readRecord, recordBytes, withNext, noRecord}
 use Rattle.store.specs.Records.{recordIn, rightLength, recordsOf, onRecords}

@@ -9,8 +9,8 @@ use lib.ListN.{length, replicate, set}
 use Rattle.item.specs.Maxima.{validSize}
 use Rattle.message.specs.declared.Envelope.{Envelope}
 use Rattle.record.specs.Record.{readRecord, zeroAfterNext}
-use Rattle.record.specs.declared.Reading.{Reading}
-use Rattle.record.specs.declared.Reading.the-variants.{Found, Fault}
+use Rattle.message.specs.declared.Reading.{Reading}
+use Rattle.message.specs.declared.Reading.the-variants.{Found, Fault}
 use Rattle.store.specs.Records.{recordCount, rightLength, recordsOf, recordIn}
 use Rattle.store.specs.Head.{firstFree, groupSize, firstOf, headZero}
 use Rattle.store.specs.Chain.{walked, walk}

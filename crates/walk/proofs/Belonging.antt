@@ -5,8 +5,8 @@ use mathlib.Core.Bool.{Bool, false, not, _&&_}
 use mathlib.Core.List.{List}
 use lib.Dec.{eqb, ltb}
 use Rattle.record.specs.Record.{readRecord}
-use Rattle.record.specs.declared.Reading.{Reading}
-use Rattle.record.specs.declared.Reading.the-variants as reading
+use Rattle.message.specs.declared.Reading.{Reading}
+use Rattle.message.specs.declared.Reading.the-variants as reading
 use Rattle.record_ends.specs.Ends.{endsOf}
 use Rattle.record_ends.specs.declared.Ends.{Ends}
 use Rattle.record_ends.specs.declared.Ends.the-variants as ends

@@ -1,5 +1,5 @@
 -- `carrying::is_refused` meets its contract.
-use Rattle.protocol.specs.Operation.{isRefused}
+use Rattle.protocol.specs.Answer.{isRefused}
 use borrow.Author.Needs.{needs}
 use Rattle.carrying.proofs.is_refused.Statement.{statement}
 use Rattle.carrying.proofs.is_refused.Tie as tie

@@ -1,7 +1,7 @@
--- `examples::lettered_examples` meets its contract, by `Holding`.
+-- `examples::lettered_examples` meets its contract, by `Lettered`.
 use Rattle.examples.proofs.lettered_examples.Statement.{statement}
 use Rattle.examples.proofs.lettered_examples.Tie as tie
-use Rattle.examples.proofs.Holding.{lettered-examples}
+use Rattle.examples.proofs.Lettered.{lettered-examples}
 
 returns : tie.Need-returns
 returns c = lettered-examples

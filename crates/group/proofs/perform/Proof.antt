@@ -45,7 +45,7 @@ use denote.Exit.{yes}
 use Rattle.protocol.specs.declared.Node.{Node}
 use Rattle.protocol.specs.declared.Event.{Event}
 use Rattle.protocol.specs.declared.Answer.{Answer}
-use Rattle.protocol.specs.Operation as operation
+use Rattle.operations.specs.Operation as operation
 use Rattle.protocol.specs.Table.{soundTable}
 use Rattle.outcome.specs.declared.Seen.{Seen}
 use Rattle.outcome.specs.Act.{lookAt}

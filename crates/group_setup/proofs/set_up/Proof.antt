@@ -42,7 +42,7 @@ use denote.Triple.Walked.{says, Stays, stay-none, gave-slice, walkOf, goes-none,
 use denote.Exit.{yes}
 use Rattle.protocol.specs.declared.Node.{Node}
 use Rattle.protocol.specs.declared.Answer.{Answer}
-use Rattle.protocol.specs.Operation as operation
+use Rattle.operations.specs.Operation as operation
 use Rattle.table_fill.specs.Fill.{freshTo}
 use Rattle.group_setup.specs.declared.Prepared.{Prepared}
 use Rattle.group_setup.specs.SetUp.{prepared, preparedStore}

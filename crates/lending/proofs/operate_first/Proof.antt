@@ -44,7 +44,7 @@ use denote.Triple.Walked.{says, Stays, stay-none, stay-slice, gave-slice, walkOf
 use denote.Exit.{yes}
 use Rattle.protocol.specs.declared.Node.{Node}
 use Rattle.protocol.specs.declared.Answer.{Answer}
-use Rattle.protocol.specs.Operation as operation
+use Rattle.operations.specs.Operation as operation
 use Rattle.protocol.proofs.Event as K
 use Rattle.protocol.proofs.Event.Laws as K′
 use Rattle.protocol.proofs.Answer as An

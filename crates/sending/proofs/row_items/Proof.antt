@@ -1,6 +1,6 @@
 -- `sending::row_items` meets its contract. The invariant: the first i items are those of the rows.
 use Rattle.sending.proofs.Places.{items-turn, items-end}
-use Rattle.protocol.specs.Operation.{rowItems}
+use Rattle.protocol.specs.Node.{rowItems}
 use Rattle.node.proofs.Array.{length-mapped}
 use Rattle.item.specs.Maxima.{maxNodes}
 use lib.Seq.{take-all}

@@ -1,5 +1,5 @@
 -- `session::size_after` by the answer's cases.
-use Rattle.protocol.specs.Operation.{isRefused}
+use Rattle.protocol.specs.Answer.{isRefused}
 use Rattle.progress.specs.Turn.{sizeAfter}
 use borrow.Author.Needs.{needs}
 use Rattle.session.proofs.size_after.Statement.{statement}

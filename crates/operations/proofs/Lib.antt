@@ -1,0 +1,9 @@
+pub mod Refusals
+pub mod Inbox
+pub mod Fitting
+pub mod FittingDelivery
+pub mod Sent
+pub mod Represents
+pub mod Performed
+pub mod Start
+pub mod Simulation

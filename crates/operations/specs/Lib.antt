@@ -1,0 +1,5 @@
+pub mod Operation
+pub mod Run
+pub mod Refusal
+pub mod Claim
+pub mod Simulation
