@@ -6,3 +6,4 @@ pub mod Opened
 pub mod SetUp
 pub mod Lettered
 pub mod Sixteen
+pub mod NetworkReturn

@@ -9,6 +9,7 @@ use Rattle.protocol.specs.Answer.{refusalNumber, refused, ok, isRefused}
 use Rattle.protocol.specs.Deliver.{onMessage, deliverStep}
 use Rattle.protocol.specs.Fetching.{onFetch, noneCounted, withTable, hasConflict, stopped, writtenBack, nodeRecover, tableCounted, onTable}
 use Rattle.protocol.specs.Merge.{mergeRow, mergeRows, lowestMarked}
+use Rattle.protocol.specs.Network.{packetOf, packetsOf, networkAfter, freshNetwork}
 use Rattle.protocol.specs.Node.{half, rowOf, ownItem, peerOf, countPeers, blankNode, crashed, started, storingBegun, withRow, withCounted, confirmingBegun, writeEnded, withRows, freshNode, rowItems}
 use Rattle.protocol.specs.Outgoing.{goesTo, messageTo, outgoingTo, outgoingFrom, outgoing}
 use Rattle.protocol.specs.Phase.{isDown, isFetching, isUp, isIdleStage, isStoringStage, isConfirmingStage, isUpIdle, isStoring, isConfirming, isReturning, atStage}
@@ -29,22 +30,22 @@ unfolding freshNode blankNode writeEnded rowOf ownItem peerOf countPeers half sa
 fields = tt
 
 -- Write, Crash and Start
-unfoldable calling : Unit {0}
+unfoldable pub calling : Unit {0}
 unfolding fields writeStep isUpIdle isIdleStage writeAtLargest indexAtLargest attemptAtLargest sendStore written storingBegun nextAttempt nextItem nextIndex crashStep startStep isDown crashed started incarnationAtLargest nextIncarnation sendFetch
 calling = tt
 
 -- Store and Stored
-unfoldable storing : Unit {0}
+unfoldable pub storing : Unit {0}
 unfolding fields deliverStep onMessage onStore isUp storeVerdict earlier replyStore withRow onStored isStoring isStoringStage ownWrite isCounted storedCounted withCounted sendConfirm confirmingBegun atStage
 storing = tt
 
 -- Confirm and Confirmed
-unfoldable confirming : Unit {0}
+unfoldable pub confirming : Unit {0}
 unfolding fields deliverStep onMessage onConfirm isUp storedUnder onConfirmed isConfirming isConfirmingStage ownWrite askedUnder isCounted withCounted confirmedCounted storeSuccess endAnswer isReturning
 confirming = tt
 
 -- Fetch and Table
-unfoldable fetching : Unit {0}
+unfoldable pub fetching : Unit {0}
 unfolding fields deliverStep onMessage onFetch isUp onTable isFetching isCounted noneCounted withTable withRows withCounted mergeRows mergeRow hasConflict lowestMarked stopped crashed nodeRecover tableCounted writtenBack storingBegun sendStore
 fetching = tt
 
@@ -54,13 +55,18 @@ unfoldable table-soundness : Unit {0}
 unfolding fields soundTable freshTable freshNodes everyFrom soundNode attemptFits rowsSound rowUse rowFits rowSound sameRow peersSound peerSound phaseCounts stageCounts countedAsked isConfirming isConfirmingStage amongAsked
 table-soundness = tt
 
--- what is sent, that it is put, and that it fits
-unfoldable posting : Unit {0}
-unfolding outgoing outgoingFrom outgoingTo goesTo messageTo peerOf countOutgoing rowItems packetsPut heldRows rowsHeld padded allFit fits fieldsFit itemsFit itemFits fieldsOf kindOf otherOf attemptOf itemOf
-posting = tt
+-- what is sent, with the rows beside it, and the network after it
+unfoldable pub sending : Unit {0}
+unfolding fields outgoing outgoingFrom outgoingTo goesTo messageTo peerOf rowItems heldRows rowsHeld padded isRefused freshNetwork freshTable freshNodes nodeAt networkAfter packetsOf packetOf
+sending = tt
+
+-- that it is put into the store, and fits
+unfoldable putting : Unit {0}
+unfolding sending countOutgoing packetsPut allFit fits fieldsFit itemsFit itemFits fieldsOf kindOf otherOf attemptOf itemOf
+putting = tt
 
 -- ---- the calls of a drill, one after the other
 
 unfoldable pub following : Unit {0}
-unfolding calling storing confirming fetching table-soundness posting trace after afterEvent afterCall afterDelivery afterStep found beside nodeAt isRefused said refusalNumber
+unfolding calling storing confirming fetching table-soundness putting trace after afterEvent afterCall afterDelivery afterStep found beside said refusalNumber
 following = tt

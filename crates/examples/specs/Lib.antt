@@ -1,3 +1,4 @@
 pub mod Said
 pub mod Lettered
 pub mod Sixteen
+pub mod NetworkReturn

@@ -1,6 +1,7 @@
 // Examples of document 01 shown from the definitions of the protocol: the ten lettered ones ("Checked examples"), one list
-// and one sentence, and the sixteen lines of its drill program. Specs and proofs only.
+// and one sentence, the sixteen lines of its drill program over table and store, and the same calls on a network. Specs and proofs only.
 ghost use Rattle.examples.specs.Lettered.{LetteredExamples};
+ghost use Rattle.examples.specs.NetworkReturn.{ReturnReached};
 ghost use Rattle.examples.specs.Sixteen.{SixteenLines};
 
 // Every example of the list answers as document 01 states, on any table of n nodes and any store of 65,280 bytes.
@@ -12,4 +13,9 @@ pub fn lettered_examples()
 // store of 65,280 bytes.
 pub fn sixteen_lines()
     ensures { λ r. ⌜ SixteenLines ⌝ }
+{}
+
+// The calls of these lines are a run of the network, in which node 0 returns: demand 3 is not empty.
+pub fn return_reached()
+    ensures { λ r. ⌜ ReturnReached ⌝ }
 {}

@@ -22,5 +22,3 @@ pub mod Shown
 pub mod Along
 pub mod Reached
 pub mod NetworkReturns
-pub mod Opened
-pub mod ExampleRun

@@ -13,4 +13,3 @@ pub mod TableLaws
 pub mod Call
 pub mod Network
 pub mod Claim
-pub mod Example

@@ -8,7 +8,6 @@ use item::Tag;
 use message::Message;
 ghost use mathlib.Core.Path.{_≡_};
 ghost use Rattle.protocol.specs.Claim.{EveryNetworkReturn};
-ghost use Rattle.protocol.specs.Example.{ReturnReached};
 ghost use Rattle.protocol.specs.Network.{NodeRefusals};
 ghost use Rattle.protocol.specs.Node.{blankNode, noPeer};
 
@@ -183,9 +182,4 @@ pub fn node_refusals()
 // last item, or an item of the next index that it had itself begun.
 pub fn every_network_return()
     ensures { λ r. ⌜ EveryNetworkReturn ⌝ }
-{}
-
-// It is not empty: a run in which a node returns, computed from the definitions.
-pub fn return_reached()
-    ensures { λ r. ⌜ ReturnReached ⌝ }
 {}

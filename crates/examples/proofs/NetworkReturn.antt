@@ -12,14 +12,14 @@ use Rattle.item.specs.declared.Item.{Item}
 use Rattle.item.specs.declared.Row.{Row}
 use Rattle.message.specs.declared.Message.{Message}
 use Rattle.message.specs.declared.Message.the-variants.{Store, Stored, Confirm, Confirmed, Fetch, Table}
-use Rattle.protocol.specs.Example.{item, incarnation, attempt, drillCalls, ReturnReached}
+use Rattle.examples.specs.NetworkReturn.{item, incarnation, attempt, drillCalls, ReturnReached}
 use Rattle.protocol.specs.Network.{Packet, Network, writes, crashes, starts, delivers, acts, Run, end, then, freshNetwork}
 use Rattle.protocol.specs.Node.{noPeers, zeroRows, storedRow}
 use Rattle.protocol.specs.declared.Node.{Node}
 use Rattle.protocol.specs.declared.Phase.{Phase}
 use Rattle.protocol.specs.declared.Phase.the-variants.{Fetching, Returning, Up}
 use Rattle.protocol.specs.declared.Stage.the-variants.{Idle, Storing}
-use Rattle.protocol.proofs.Opened.{writing, storing, confirming, restarting, fetching}
+use Rattle.examples.proofs.Opened.{calling, storing, confirming, fetching, sending}
 
 -- ---- nodes and packets
 
@@ -119,7 +119,7 @@ latest : {p : Packet} {sent : List Packet} → List·Memᴰ p (p ∷ sent)
 latest = List·Memᴰ·head refl
 
 settles : After 5 settled → After 0 (freshNetwork 3)
-unfolding settled drillCalls writing storing confirming
+unfolding settled drillCalls calling storing confirming sending
 settles rest =
     then (acts (writes 0 (item .tag) (lit< tt)) refl)
     (then (acts (delivers 1 _ latest) refl)
@@ -128,7 +128,7 @@ settles rest =
     (then (acts (delivers 5 _ latest) refl) rest))))
 
 fetches : After 9 tables-sent → After 5 settled
-unfolding settled tables-sent drillCalls restarting fetching
+unfolding settled tables-sent drillCalls calling fetching sending
 fetches rest =
     then (acts (crashes 0 (lit< tt)) refl)
     (then (acts (starts 0 (lit< tt)) refl)
@@ -136,13 +136,13 @@ fetches rest =
     (then (acts (delivers 7 _ (List·Memᴰ·tail (List·Memᴰ·tail latest))) refl) rest)))
 
 rebuilds : After 11 returning → After 9 tables-sent
-unfolding tables-sent returning drillCalls fetching
+unfolding tables-sent returning drillCalls fetching sending
 rebuilds rest =
     then (acts (delivers 8 _ (List·Memᴰ·tail latest)) refl)
     (then (acts (delivers 9 _ latest) refl) rest)
 
 writes-back : After 11 returning
-unfolding returning returned drillCalls storing confirming
+unfolding returning returned drillCalls storing confirming sending
 writes-back =
     then (acts (delivers 10 _ latest) refl)
     (then (acts (delivers 12 _ latest) refl)
