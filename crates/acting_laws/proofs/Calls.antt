@@ -3,7 +3,7 @@ use Prim.Native.Nat.{ℕ, _-_, _≤_, _<_}
 use mathlib.Core.Path.{_≡_, refl, _∙_}
 use mathlib.Core.Bool.{Bool, true, not, _&&_, _||_}
 use mathlib.Core.List.{List}
-use Rattle.counters.specs.Counter.{attemptAtLargest, incarnationAtLargest}
+use Rattle.item.specs.Counter.{attemptAtLargest, incarnationAtLargest}
 use Rattle.item.specs.Maxima.{maxNodes}
 use Rattle.item.specs.Tests.{by-cond}
 use Rattle.item.specs.declared.Tag.{Tag}

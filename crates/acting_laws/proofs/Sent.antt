@@ -9,7 +9,7 @@ use borrow.Author.Tests.{lt-ltb, le-ltb, eq-eqb, ne-eqb}
 use Rattle.chains.specs.Times.{by-same}
 use Rattle.endian.specs.PartLaws.{by-order}
 use Rattle.item.specs.Maxima.{maxNodes}
-use Rattle.counters.specs.declared.Attempt.{Attempt}
+use Rattle.item.specs.declared.counters.Attempt.{Attempt}
 use Rattle.item.specs.declared.Item.{Item}
 use Rattle.message.specs.declared.Message.{Message}
 use Rattle.returns.specs.Majority.{bit, count}

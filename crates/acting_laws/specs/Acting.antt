@@ -6,10 +6,10 @@ use mathlib.Core.List.{List}
 use lib.Dec.{leb, ltb}
 use Rattle.chains.specs.Leads.{inboxList}
 use Rattle.chains.specs.Times.{timesOn}
-use Rattle.counters.specs.Counter.{earlier, attemptAtLargest, incarnationAtLargest}
+use Rattle.item.specs.Counter.{earlier, attemptAtLargest, incarnationAtLargest}
 use Rattle.item.specs.Item.{ranksBelow, sameItem}
-use Rattle.counters.specs.declared.Attempt.{Attempt}
-use Rattle.counters.specs.declared.Incarnation.{Incarnation}
+use Rattle.item.specs.declared.counters.Attempt.{Attempt}
+use Rattle.item.specs.declared.counters.Incarnation.{Incarnation}
 use Rattle.item.specs.declared.Item.{Item}
 use Rattle.item.specs.declared.Row.{Row}
 use Rattle.layout.specs.Layout.{rowsOf}

@@ -18,7 +18,7 @@ ghost use mathlib.Core.Path.{_≡_};
 ghost use Rattle.protocol.specs.declared.Node.{Node};
 ghost use Rattle.view.specs.View.{Sees};
 ghost use Rattle.decision.specs.Decision.{stepBy};
-ghost use Rattle.counters.specs.Counter.{sameIncarnation};
+ghost use Rattle.item.specs.Counter.{sameIncarnation};
 ghost use Rattle.protocol.specs.Storing.{onConfirmed};
 
 // Whether the sender is one of those asked, under this incarnation.

@@ -1,7 +1,7 @@
 -- What is decided of a message, as a step of the node: by what is seen of the node, or, of a Table, by the whole node.
 use Prim.Native.Nat.{ℕ}
 use mathlib.Core.List.{List}
-use Rattle.counters.specs.declared.Incarnation.{Incarnation}
+use Rattle.item.specs.declared.counters.Incarnation.{Incarnation}
 use Rattle.item.specs.declared.Item.{Item}
 use Rattle.protocol.specs.Fetching.{onTable}
 use Rattle.protocol.specs.declared.Node.{Node}

@@ -1,5 +1,5 @@
 -- What a proof by computation opens, in groups: to open one of these names is to open every definition on its line.
-use Rattle.counters.specs.Counter.{sameIncarnation, sameAttempt, indexBelow, indexAtLargest, nextIndex, incarnationAtLargest, nextIncarnation, attemptAtLargest, nextAttempt, earlier}
+use Rattle.item.specs.Counter.{sameIncarnation, sameAttempt, indexBelow, indexAtLargest, nextIndex, incarnationAtLargest, nextIncarnation, attemptAtLargest, nextAttempt, earlier}
 use Rattle.item.specs.Item.{tagsAgree, ranksBelow, sameItem}
 use Rattle.item.specs.Row.{sameRow}
 use Rattle.message.specs.Rows.{rowsHeld, padded, heldRows}

@@ -2,7 +2,7 @@
 use Prim.Native.Nat.{ℕ}
 use mathlib.Core.Bool.{Bool, true, not, cond, _&&_}
 use lib.Dec.{ltb}
-use Rattle.counters.specs.Counter.{sameIncarnation, sameAttempt}
+use Rattle.item.specs.Counter.{sameIncarnation, sameAttempt}
 use Rattle.item.specs.Item.{zeroItem, sameItem}
 use Rattle.item.specs.declared.Row.{Row}
 use Rattle.protocol.specs.declared.Node.{Node}

@@ -4,7 +4,7 @@ use mathlib.Core.Bool.{Bool, true, false, _&&_}
 use lib.Dec.{eqb}
 use Rattle.item.specs.declared.Tag.{Tag}
 use Rattle.item.specs.declared.Item.{Item}
-use Rattle.counters.specs.Counter.{indexBelow}
+use Rattle.item.specs.Counter.{indexBelow}
 
 -- "index 0, tag 0": the item of a node that has settled nothing
 abbrev pub zeroItem : Item

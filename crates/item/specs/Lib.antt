@@ -1,3 +1,4 @@
+pub mod Counter
 pub mod Maxima
 pub mod Item
 pub mod Row

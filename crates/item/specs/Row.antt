@@ -1,7 +1,7 @@
 -- Rows: what a node keeps of each writer.
 use mathlib.Core.Bool.{Bool, true, false, _&&_, Bool·beq}
 use Rattle.item.specs.declared.Row.{Row}
-use Rattle.counters.specs.Counter.{sameIncarnation, sameAttempt}
+use Rattle.item.specs.Counter.{sameIncarnation, sameAttempt}
 use Rattle.item.specs.Item.{zeroItem, sameItem}
 
 -- "(0, 0 if set up or rebuilt)": the row of a writer of whom nothing is known

@@ -1,6 +1,8 @@
-// Tags, items and rows, with the counters of the crate `counters`, and every comparison of them that the layers above
+// Tags, items and rows, with the counters of `item::counters`, and every comparison of them that the layers above
 // use: nobody above compares their fields by hand. Everything is proved, no public function has a `requires`, and each
 // gives what one definition of specs/ says.
+mod counters;
+
 pub use counters::Attempt;
 pub use counters::Incarnation;
 pub use counters::Index;

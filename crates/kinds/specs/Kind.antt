@@ -3,10 +3,10 @@
 use Prim.Native.Nat.{ℕ}
 use mathlib.Core.Bool.{Bool, _&&_, cond}
 use lib.Dec.{eqb}
-use Rattle.counters.specs.Counter.{sameIncarnation, sameAttempt}
+use Rattle.item.specs.Counter.{sameIncarnation, sameAttempt}
 use Rattle.item.specs.Item.{zeroItem, sameItem}
-use Rattle.counters.specs.declared.Incarnation.{Incarnation}
-use Rattle.counters.specs.declared.Attempt.{Attempt}
+use Rattle.item.specs.declared.counters.Incarnation.{Incarnation}
+use Rattle.item.specs.declared.counters.Attempt.{Attempt}
 use Rattle.item.specs.declared.Item.{Item}
 use Rattle.message.specs.declared.Message.{Message}
 use Rattle.message.specs.declared.Message.the-variants.{Store, Stored, Confirm, Confirmed, Fetch, Table}

@@ -9,7 +9,7 @@ use native.Mathlib.Omega.{arith}
 use lib.Dec.{ltb, eqb}
 use lib.ListN.{length, getD}
 use borrow.Author.Tests.{lt-ltb, le-ltb, eq-eqb, ne-eqb, ltb-true, ltb-false}
-use Rattle.counters.specs.Counter.{indexBelow}
+use Rattle.item.specs.Counter.{indexBelow}
 use Rattle.item.specs.Item.{zeroItem, ranksBelow, sameItem, tagsAgree}
 use Rattle.item.specs.Row.{zeroRow}
 use Rattle.item.specs.declared.Item.{Item}

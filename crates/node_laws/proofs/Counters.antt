@@ -5,11 +5,11 @@ use native.Mathlib.Omega.{arith}
 use mathlib.Core.Path.{_≡_, refl, sym, ap}
 use mathlib.Core.Bool.{true, false, false≢true}
 use mathlib.Core.List.{List}
-use Rattle.counters.specs.Counter.{nextIncarnation, incarnationAtLargest, nextAttempt, attemptAtLargest}
+use Rattle.item.specs.Counter.{nextIncarnation, incarnationAtLargest, nextAttempt, attemptAtLargest}
 use Rattle.item.specs.Laws.{next-incarnation, same-attempt}
 use Rattle.item.specs.Tests.{by-cond, and-left, and-right}
-use Rattle.counters.specs.declared.Attempt.{Attempt}
-use Rattle.counters.specs.declared.Incarnation.{Incarnation}
+use Rattle.item.specs.declared.counters.Attempt.{Attempt}
+use Rattle.item.specs.declared.counters.Incarnation.{Incarnation}
 use Rattle.item.specs.declared.Item.{Item}
 use Rattle.message.specs.declared.Message.{Message}
 use Rattle.protocol.specs.Answer.{ok, refused}

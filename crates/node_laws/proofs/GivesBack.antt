@@ -4,7 +4,7 @@ use mathlib.Core.Path.{_≡_, refl, sym, ap, _∙_}
 use mathlib.Core.Bool.{false, false≢true}
 use mathlib.Core.List.{List}
 use Rattle.item.specs.Tests.{by-cond}
-use Rattle.counters.specs.declared.Incarnation.{Incarnation}
+use Rattle.item.specs.declared.counters.Incarnation.{Incarnation}
 use Rattle.item.specs.declared.Item.{Item}
 use Rattle.message.specs.declared.Message.{Message}
 use Rattle.protocol.specs.Answer.{ok, refused, isRefused}

@@ -5,10 +5,10 @@ use mathlib.Core.Path.{_≡_}
 use mathlib.Core.Bool.{true, false}
 use mathlib.Core.List.{List}
 use lib.Dec.{ltb}
-use Rattle.counters.specs.Counter.{incarnationAtLargest}
+use Rattle.item.specs.Counter.{incarnationAtLargest}
 use Rattle.item.specs.Tests.{and-right}
-use Rattle.counters.specs.declared.Attempt.{Attempt}
-use Rattle.counters.specs.declared.Incarnation.{Incarnation}
+use Rattle.item.specs.declared.counters.Attempt.{Attempt}
+use Rattle.item.specs.declared.counters.Incarnation.{Incarnation}
 use Rattle.item.specs.declared.Item.{Item}
 use Rattle.item.specs.declared.Tag.{Tag}
 use Rattle.message.specs.declared.Envelope.{Envelope}

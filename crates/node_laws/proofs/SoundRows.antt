@@ -7,13 +7,13 @@ use mathlib.Core.List.{List, [], _∷_}
 use lib.Dec.{ltb}
 use lib.ListN.{length, getD}
 use borrow.Author.Tests.{ltb-false, lt-ltb}
-use Rattle.counters.specs.Counter.{sameIncarnation, sameAttempt, indexBelow}
+use Rattle.item.specs.Counter.{sameIncarnation, sameAttempt, indexBelow}
 use Rattle.item.specs.Item.{zeroItem, ranksBelow, sameItem, tagsAgree}
 use Rattle.item.specs.Laws.{same-row}
 use Rattle.item.specs.Row.{zeroRow, sameRow}
 use Rattle.item.specs.Tests.{by-cond, and-left, and-right, and-both}
-use Rattle.counters.specs.declared.Attempt.{Attempt}
-use Rattle.counters.specs.declared.Incarnation.{Incarnation}
+use Rattle.item.specs.declared.counters.Attempt.{Attempt}
+use Rattle.item.specs.declared.counters.Incarnation.{Incarnation}
 use Rattle.item.specs.declared.Item.{Item}
 use Rattle.item.specs.declared.Row.{Row}
 use Rattle.protocol.specs.Merge.{mergeRow, mergeRows, lowestMarked}

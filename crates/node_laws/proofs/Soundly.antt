@@ -9,12 +9,12 @@ use mathlib.Core.List.{List}
 use lib.Dec.{ltb}
 use lib.ListN.{set}
 use borrow.Author.Tests.{lt-ltb, eqb-true, eq-eqb, ne-eqb}
-use Rattle.counters.specs.Counter.{sameIncarnation, sameAttempt}
+use Rattle.item.specs.Counter.{sameIncarnation, sameAttempt}
 use Rattle.item.specs.Maxima.{maxNodes}
 use Rattle.item.specs.Row.{zeroRow}
 use Rattle.item.specs.Tests.{and-left, and-right, and-both}
-use Rattle.counters.specs.declared.Attempt.{Attempt}
-use Rattle.counters.specs.declared.Incarnation.{Incarnation}
+use Rattle.item.specs.declared.counters.Attempt.{Attempt}
+use Rattle.item.specs.declared.counters.Incarnation.{Incarnation}
 use Rattle.item.specs.declared.Item.{Item}
 use Rattle.item.specs.declared.Row.{Row}
 use Rattle.protocol.specs.Node.{noPeer, noPeers, half, storedRow, peerOf, countPeers, blankNode, crashed, started, storingBegun}

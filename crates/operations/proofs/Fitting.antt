@@ -10,14 +10,14 @@ use lib.ListN.{length, getD, set, replicate, getD-replicate, List·getD-eq-defau
 use lib.Seq.{getD-set-same, getD-set-other, set-out}
 use borrow.Author.Tests.{eqb-true, eqb-false}
 use Rattle.endian.specs.PartLaws.{by-order}
-use Rattle.counters.specs.Counter.{largest, indexAtLargest, nextIndex, incarnationAtLargest, nextIncarnation, attemptAtLargest, nextAttempt}
+use Rattle.item.specs.Counter.{largest, indexAtLargest, nextIndex, incarnationAtLargest, nextIncarnation, attemptAtLargest, nextAttempt}
 use Rattle.item.specs.Item.{zeroItem, ranksBelow, sameItem}
 use Rattle.item.specs.Maxima.{maxNodes, tagSize}
 use Rattle.item.specs.Row.{zeroRow}
 use Rattle.item.specs.Tests.{by-cond}
-use Rattle.counters.specs.declared.Attempt.{Attempt}
-use Rattle.counters.specs.declared.Incarnation.{Incarnation}
-use Rattle.counters.specs.declared.Index.{Index}
+use Rattle.item.specs.declared.counters.Attempt.{Attempt}
+use Rattle.item.specs.declared.counters.Incarnation.{Incarnation}
+use Rattle.item.specs.declared.counters.Index.{Index}
 use Rattle.item.specs.declared.Item.{Item}
 use Rattle.item.specs.declared.Row.{Row}
 use Rattle.item.specs.declared.Tag.{Tag}

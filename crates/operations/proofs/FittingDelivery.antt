@@ -9,8 +9,8 @@ use lib.ListN.{getD}
 use Rattle.item.specs.Item.{zeroItem}
 use Rattle.item.specs.Row.{zeroRow}
 use Rattle.item.specs.Tests.{by-cond}
-use Rattle.counters.specs.declared.Attempt.{Attempt}
-use Rattle.counters.specs.declared.Incarnation.{Incarnation}
+use Rattle.item.specs.declared.counters.Attempt.{Attempt}
+use Rattle.item.specs.declared.counters.Incarnation.{Incarnation}
 use Rattle.item.specs.declared.Item.{Item}
 use Rattle.item.specs.declared.Row.{Row}
 use Rattle.message.specs.declared.Envelope.{Envelope}

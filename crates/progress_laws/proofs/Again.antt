@@ -6,7 +6,7 @@ use mathlib.Core.Bool.{true, false}
 use mathlib.Core.List.{List}
 use lib.Seq.{getD-set-same}
 use borrow.Author.Tests.{lt-ltb}
-use Rattle.counters.specs.Counter.{attemptAtLargest, nextAttempt}
+use Rattle.item.specs.Counter.{attemptAtLargest, nextAttempt}
 use Rattle.item.specs.Maxima.{maxNodes, validSize}
 use Rattle.item.specs.Row.{zeroRow}
 use Rattle.item.specs.declared.Item.{Item}

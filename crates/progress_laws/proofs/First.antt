@@ -10,7 +10,7 @@ use lib.ListN.{getD}
 use lib.Seq.{getD-set-same}
 use borrow.Author.Tests.{lt-ltb}
 use Rattle.chains.specs.Empty.{set-up-done}
-use Rattle.counters.specs.Counter.{indexBelow, indexAtLargest, attemptAtLargest, nextIndex}
+use Rattle.item.specs.Counter.{indexBelow, indexAtLargest, attemptAtLargest, nextIndex}
 use Rattle.item.specs.Item.{ranksBelow, zeroItem}
 use Rattle.item.specs.Maxima.{maxNodes, tagSize}
 use Rattle.item.specs.Row.{zeroRow}

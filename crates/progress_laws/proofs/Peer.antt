@@ -10,7 +10,7 @@ use lib.ListN.{length}
 use borrow.Author.Tests.{lt-ltb, eq-eqb}
 use Rattle.item.specs.Maxima.{maxNodes}
 use Rattle.item.specs.Tests.{and-both}
-use Rattle.counters.specs.declared.Incarnation.{Incarnation}
+use Rattle.item.specs.declared.counters.Incarnation.{Incarnation}
 use Rattle.item.specs.declared.Item.{Item}
 use Rattle.layout.specs.Layout.{rowsOf}
 use Rattle.message.specs.declared.Envelope.{Envelope}

@@ -6,13 +6,13 @@ use mathlib.Core.Bool.{Bool, true, false, cond, not, _&&_, _||_, false≢true}
 use mathlib.Core.List.{List}
 use lib.Seq.{getD-set-same}
 use borrow.Author.Tests.{eq-eqb}
-use Rattle.counters.specs.Counter.{sameIncarnation, sameAttempt, earlier}
+use Rattle.item.specs.Counter.{sameIncarnation, sameAttempt, earlier}
 use Rattle.item.specs.Item.{ranksBelow, sameItem, tagsAgree}
 use Rattle.item.specs.Maxima.{maxNodes}
 use Rattle.item.specs.Row.{zeroRow}
 use Rattle.item.specs.Tests.{by-cond, and-both}
-use Rattle.counters.specs.declared.Attempt.{Attempt}
-use Rattle.counters.specs.declared.Incarnation.{Incarnation}
+use Rattle.item.specs.declared.counters.Attempt.{Attempt}
+use Rattle.item.specs.declared.counters.Incarnation.{Incarnation}
 use Rattle.item.specs.declared.Item.{Item}
 use Rattle.item.specs.declared.Row.{Row}
 use Rattle.message.specs.declared.Message.the-variants as message

@@ -10,8 +10,8 @@ use borrow.Author.Tests.{lt-ltb}
 use Rattle.chains.specs.Sound.{size-least}
 use Rattle.item.specs.Maxima.{maxNodes, validSize}
 use Rattle.item.specs.Tests.{and-both}
-use Rattle.counters.specs.declared.Attempt.{Attempt}
-use Rattle.counters.specs.declared.Incarnation.{Incarnation}
+use Rattle.item.specs.declared.counters.Attempt.{Attempt}
+use Rattle.item.specs.declared.counters.Incarnation.{Incarnation}
 use Rattle.item.specs.declared.Item.{Item}
 use Rattle.message.specs.declared.Message.the-variants as message
 use Rattle.message.specs.declared.Reading.the-variants.{Found}

@@ -10,7 +10,7 @@ use lib.Dec.{ltb}
 use lib.ListN.{length, set}
 use lib.Seq.{getD-set-same, getD-set-other}
 use borrow.Author.Tests.{lt-ltb, le-ltb}
-use Rattle.counters.specs.declared.Incarnation.{Incarnation}
+use Rattle.item.specs.declared.counters.Incarnation.{Incarnation}
 use Rattle.item.specs.declared.Item.{Item}
 use Rattle.layout.specs.Layout.{rowsOf}
 use Rattle.message.specs.declared.Envelope.{Envelope}

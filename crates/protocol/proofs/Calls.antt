@@ -7,7 +7,7 @@ use mathlib.Core.Logic.{_≢_}
 use mathlib.Core.Bool.{Bool, true, false, cond, _||_, false≢true}
 use lib.Dec.{eqb}
 use borrow.Author.Tests.{eqb-true, eqb-false}
-use Rattle.counters.specs.Counter.{incarnationAtLargest, attemptAtLargest, indexAtLargest, nextIndex}
+use Rattle.item.specs.Counter.{incarnationAtLargest, attemptAtLargest, indexAtLargest, nextIndex}
 use Rattle.item.specs.Item.{itemAbove}
 use Rattle.item.specs.Laws.{next-index, next-incarnation, next-attempt}
 use Rattle.item.specs.Tests.{by-cond}

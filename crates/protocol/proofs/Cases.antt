@@ -4,11 +4,11 @@ use Prim.Native.Nat.{ℕ}
 use mathlib.Core.Path.{_≡_, sym, _∙_}
 use mathlib.Core.Bool.{true, false, _&&_, false≢true}
 use mathlib.Core.List.{List}
-use Rattle.counters.specs.Counter.{earlier, incarnationAtLargest, attemptAtLargest}
+use Rattle.item.specs.Counter.{earlier, incarnationAtLargest, attemptAtLargest}
 use Rattle.item.specs.Item.{ranksBelow, sameItem}
 use Rattle.item.specs.Tests.{by-cond}
-use Rattle.counters.specs.declared.Attempt.{Attempt}
-use Rattle.counters.specs.declared.Incarnation.{Incarnation}
+use Rattle.item.specs.declared.counters.Attempt.{Attempt}
+use Rattle.item.specs.declared.counters.Incarnation.{Incarnation}
 use Rattle.item.specs.declared.Item.{Item}
 use Rattle.item.specs.declared.Tag.{Tag}
 use Rattle.message.specs.declared.Message.the-variants as message

@@ -9,8 +9,8 @@ use mathlib.Core.List.{List}
 use borrow.Author.Tests.{ltb-false, eq-eqb, ne-eqb}
 use Rattle.item.specs.Laws.{same-incarnation}
 use Rattle.item.specs.Tests.{by-cond, and-left, and-right}
-use Rattle.counters.specs.declared.Attempt.{Attempt}
-use Rattle.counters.specs.declared.Incarnation.{Incarnation}
+use Rattle.item.specs.declared.counters.Attempt.{Attempt}
+use Rattle.item.specs.declared.counters.Incarnation.{Incarnation}
 use Rattle.item.specs.declared.Item.{Item}
 use Rattle.message.specs.declared.Message.the-variants as message
 use Rattle.returns.specs.Change.{Change, CountsConfirmed, Finishes, atConfirmed, atLastConfirmed, unchanged}

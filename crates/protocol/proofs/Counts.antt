@@ -10,7 +10,7 @@ use lib.ListN.{length, getD, set, replicate, length-set, List·getD-eq-default}
 use borrow.Author.Tests.{ltb-true}
 use Rattle.item.specs.Maxima.{maxNodes}
 use Rattle.item.specs.Tests.{by-cond, and-left, and-right}
-use Rattle.counters.specs.declared.Incarnation.{Incarnation}
+use Rattle.item.specs.declared.counters.Incarnation.{Incarnation}
 use Rattle.returns.specs.Majority.{bit, count, count-first, count-beyond}
 use Rattle.returns.specs.Replace.{replaced, replaced-other, seen-set}
 use Rattle.protocol.specs.Node.{noPeer, noPeers, peerOf, countPeers}

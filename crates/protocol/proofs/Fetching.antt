@@ -7,12 +7,12 @@ use mathlib.Core.Bool.{Bool, true, false}
 use mathlib.Core.List.{List, [], List·Memᴰ·head}
 use lib.ListN.{length, getD, List·getD-map}
 use borrow.Author.Tests.{eqb-true, ltb-false}
-use Rattle.counters.specs.Counter.{sameIncarnation}
+use Rattle.item.specs.Counter.{sameIncarnation}
 use Rattle.item.specs.Item.{zeroItem}
 use Rattle.item.specs.Laws.{same-incarnation}
 use Rattle.item.specs.Maxima.{maxNodes}
 use Rattle.item.specs.Row.{zeroRow}
-use Rattle.counters.specs.declared.Incarnation.{Incarnation}
+use Rattle.item.specs.declared.counters.Incarnation.{Incarnation}
 use Rattle.item.specs.declared.Item.{Item}
 use Rattle.item.specs.declared.Row.{Row}
 use Rattle.message.specs.declared.Message.the-variants as message

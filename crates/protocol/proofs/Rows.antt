@@ -15,7 +15,7 @@ use Rattle.item.specs.Laws.{same-item}
 use Rattle.item.specs.Maxima.{maxNodes}
 use Rattle.item.specs.Row.{zeroRow}
 use Rattle.item.specs.Tests.{by-cond}
-use Rattle.counters.specs.declared.Attempt.{Attempt}
+use Rattle.item.specs.declared.counters.Attempt.{Attempt}
 use Rattle.item.specs.declared.Item.{Item}
 use Rattle.item.specs.declared.Row.{Row}
 use Rattle.returns.specs.Merge.{Merged, merged-first, merged-higher, merged-lower, merged-level}

@@ -3,8 +3,8 @@ use Prim.Native.Nat.{ℕ}
 use mathlib.Core.Path.{refl, _∙_}
 use mathlib.Core.List.{List}
 use lib.ListN.{length-set}
-use Rattle.counters.specs.declared.Attempt.{Attempt}
-use Rattle.counters.specs.declared.Incarnation.{Incarnation}
+use Rattle.item.specs.declared.counters.Attempt.{Attempt}
+use Rattle.item.specs.declared.counters.Incarnation.{Incarnation}
 use Rattle.item.specs.declared.Item.{Item}
 use Rattle.item.specs.declared.Row.{Row}
 use Rattle.item.specs.declared.Tag.{Tag}

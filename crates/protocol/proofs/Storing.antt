@@ -10,8 +10,8 @@ use lib.ListN.{length}
 use Rattle.item.specs.Item.{ranksBelow, sameItem}
 use Rattle.item.specs.Laws.{same-incarnation, same-attempt, same-item}
 use Rattle.item.specs.Tests.{and-left, and-right}
-use Rattle.counters.specs.declared.Attempt.{Attempt}
-use Rattle.counters.specs.declared.Incarnation.{Incarnation}
+use Rattle.item.specs.declared.counters.Attempt.{Attempt}
+use Rattle.item.specs.declared.counters.Incarnation.{Incarnation}
 use Rattle.item.specs.declared.Item.{Item}
 use Rattle.item.specs.declared.Row.{Row}
 use Rattle.message.specs.declared.Message.the-variants as message

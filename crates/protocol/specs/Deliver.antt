@@ -1,7 +1,7 @@
 -- Delivery of a message to its addressee, by its kind.
 use mathlib.Core.List.{List}
 use Rattle.item.specs.declared.Item.{Item}
-use Rattle.counters.specs.declared.Incarnation.{Incarnation}
+use Rattle.item.specs.declared.counters.Incarnation.{Incarnation}
 use Prim.Native.Nat.{ℕ}
 use Rattle.message.specs.declared.Envelope.{Envelope}
 use Rattle.message.specs.declared.Message.{Message}

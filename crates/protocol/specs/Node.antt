@@ -6,10 +6,10 @@ use mathlib.Core.List.{List, [], _∷_, map}
 use lib.Dec.{ltb}
 use lib.ListN.{getD, set, replicate}
 use Rattle.item.specs.Maxima.{maxNodes}
-use Rattle.counters.specs.Counter.{nextIncarnation, sameIncarnation}
+use Rattle.item.specs.Counter.{nextIncarnation, sameIncarnation}
 use Rattle.item.specs.Row.{zeroRow}
-use Rattle.counters.specs.declared.Attempt.{Attempt}
-use Rattle.counters.specs.declared.Incarnation.{Incarnation}
+use Rattle.item.specs.declared.counters.Attempt.{Attempt}
+use Rattle.item.specs.declared.counters.Incarnation.{Incarnation}
 use Rattle.item.specs.declared.Item.{Item}
 use Rattle.item.specs.declared.Row.{Row}
 use Rattle.protocol.specs.declared.Node.{Node}

@@ -5,9 +5,9 @@ use Prim.Native.Nat.{ℕ, zero, suc}
 use mathlib.Core.Bool.{Bool, true, false, cond, not, _&&_}
 use mathlib.Core.List.{List, [], _∷_}
 use lib.Dec.{ltb, eqb}
-use Rattle.counters.specs.Counter.{sameIncarnation, sameAttempt}
+use Rattle.item.specs.Counter.{sameIncarnation, sameAttempt}
 use Rattle.item.specs.Row.{zeroRow, sameRow}
-use Rattle.counters.specs.declared.Attempt.{Attempt}
+use Rattle.item.specs.declared.counters.Attempt.{Attempt}
 use Rattle.item.specs.declared.Row.{Row}
 use Rattle.protocol.specs.Node.{half, countPeers, peerOf}
 use Rattle.protocol.specs.Phase.{isConfirming}

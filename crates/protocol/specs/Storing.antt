@@ -2,10 +2,10 @@
 -- The sender and its incarnation are the envelope's.
 use Prim.Native.Nat.{ℕ}
 use mathlib.Core.Bool.{Bool, cond, _&&_}
-use Rattle.counters.specs.Counter.{sameIncarnation, sameAttempt, earlier}
+use Rattle.item.specs.Counter.{sameIncarnation, sameAttempt, earlier}
 use Rattle.item.specs.Item.{ranksBelow, sameItem}
-use Rattle.counters.specs.declared.Attempt.{Attempt}
-use Rattle.counters.specs.declared.Incarnation.{Incarnation}
+use Rattle.item.specs.declared.counters.Attempt.{Attempt}
+use Rattle.item.specs.declared.counters.Incarnation.{Incarnation}
 use Rattle.item.specs.declared.Item.{Item}
 use Rattle.item.specs.declared.Row.{Row}
 use Rattle.message.specs.declared.Message.the-variants as message

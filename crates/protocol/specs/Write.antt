@@ -1,6 +1,6 @@
 -- Write, Retry, Crash and Start of one node (document 01, Operations), with refusals 5 and 6; 7 is the store's.
 use mathlib.Core.Bool.{Bool, true, false, cond, _||_}
-use Rattle.counters.specs.Counter.{indexAtLargest, nextIndex, incarnationAtLargest, attemptAtLargest, nextAttempt}
+use Rattle.item.specs.Counter.{indexAtLargest, nextIndex, incarnationAtLargest, attemptAtLargest, nextAttempt}
 use Rattle.item.specs.declared.Item.{Item}
 use Rattle.item.specs.declared.Tag.{Tag}
 use Rattle.message.specs.declared.Message.the-variants as message

@@ -11,7 +11,7 @@ use lib.Dec.{eqb}
 use lib.ListN.{length, take, drop, getD, length-append, length-drop, replicate, replicate-append-replicate, drop-of-length-le}
 use lib.Seq.{drop-at, drop-cons, drop-nil, drop-drop}
 use Rattle.item.specs.Maxima.{maxNodes, tagSize}
-use Rattle.counters.specs.Counter.{sameIncarnation, sameAttempt}
+use Rattle.item.specs.Counter.{sameIncarnation, sameAttempt}
 use Rattle.item.specs.Item.{zeroItem, sameItem, tagsAgree}
 use Rattle.item.specs.Tests.{by-cond}
 use Rattle.item.specs.declared.Item.{Item}

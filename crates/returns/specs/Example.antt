@@ -8,7 +8,7 @@ use mathlib.Core.Bool.{Bool, true, false}
 use mathlib.Core.List.{List, [], _∷_, List·Memᴰ·head, List·Memᴰ·tail}
 use lib.Dec.{lit≤, lit<}
 use Rattle.item.specs.declared.Item.{Item}
-use Rattle.counters.specs.Counter.{indexBelow}
+use Rattle.item.specs.Counter.{indexBelow}
 use Rattle.item.specs.Item.{zeroItem, ranksBelow}
 use Rattle.returns.specs.Replace.{replaced}
 use Rattle.returns.specs.Majority.{count}

@@ -14,7 +14,7 @@ use Rattle.endian.specs.NumberLaws.{value-fits, bytes-take, bytes-drop}
 use Rattle.endian.specs.Part.{part, whole}
 use Rattle.endian.specs.PartLaws.{by-order}
 use Rattle.endian.specs.Zero.{allZero}
-use Rattle.counters.specs.Counter.{sameIncarnation}
+use Rattle.item.specs.Counter.{sameIncarnation}
 use Rattle.item.specs.Item.{zeroItem}
 use Rattle.item.specs.Maxima.{maxNodes, tagSize}
 use Rattle.item.specs.Tests.{by-cond, and-left, and-right}

@@ -11,7 +11,7 @@ use Rattle.protocol.specs.declared.Node.{Node}
 use Rattle.protocol.specs.declared.Peer.{Peer}
 use Rattle.view.specs.View.{somePeer, viewOf, Sees}
 use Rattle.view.specs.declared.View.{View}
-use Rattle.counters.specs.declared.Incarnation.{Incarnation}
+use Rattle.item.specs.declared.counters.Incarnation.{Incarnation}
 
 -- so many are counted with a peer, whatever its incarnation
 pub count-with : (peers : List Peer) (i : ℕ) (peer : Peer) → peer .present ≡ true → countPeers (set peers i peer) ≡ countPeers (set peers i somePeer)

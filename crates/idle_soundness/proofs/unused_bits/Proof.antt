@@ -7,7 +7,7 @@ use lib.Dec.{eqb}
 use native.Mathlib.Omega.{arith}
 use borrow.Author.Needs.{needs}
 use borrow.Author.Tests.{lt-ltb, le-ltb}
-use Rattle.counters.specs.Counter.{sameIncarnation, sameAttempt}
+use Rattle.item.specs.Counter.{sameIncarnation, sameAttempt}
 use Rattle.endian.specs.ZeroLaws.{or-zero}
 use Rattle.item.specs.Item.{tagsAgree, sameItem}
 use Rattle.item.specs.declared.Row.{Row}
