@@ -31,8 +31,8 @@ fn read_item(r: &[u8], at: usize) -> Item
     requires { ⌜ at ≤ recordSize ⌝ }
     ensures { λ i. ⌜ i ≡ itemIn (now (r .entry)) at ⌝ }
 {
-    let index = Index(endian_read::read_u64(r, at));
-    let tag = Tag(endian_read::read_u64(r, at + layout::INDEX_SIZE));
+    let index = Index(endian::read_u64(r, at));
+    let tag = Tag(endian::read_u64(r, at + layout::INDEX_SIZE));
     Item {
         index: index,
         tag: tag,
@@ -45,9 +45,9 @@ pub fn read_fields(r: &[u8]) -> Fields
 {
     let kind = byte_at(r, layout::KIND_AT);
     let address = wide(byte_at(r, layout::ADDRESS_AT));
-    let incarnation = Incarnation(endian_read::read_u32(r, layout::INCARNATION_AT));
-    let other = Incarnation(endian_read::read_u32(r, layout::OTHER_AT));
-    let attempt = Attempt(endian_read::read_u32(r, layout::ATTEMPT_AT));
+    let incarnation = Incarnation(endian::read_u32(r, layout::INCARNATION_AT));
+    let other = Incarnation(endian::read_u32(r, layout::OTHER_AT));
+    let attempt = Attempt(endian::read_u32(r, layout::ATTEMPT_AT));
     let item = read_item(r, layout::ITEM_AT);
     Fields {
         kind: kind,

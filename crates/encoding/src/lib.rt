@@ -13,8 +13,8 @@ fn write_item(r: &mut [u8], at: usize, item: Item)
     requires { ⌜ at + rowSize ≤ length (now r) ⌝ }
     ensures { λ _. ⌜ now (r .exit) ≡ withPart rowSize (now (r .entry)) at (itemBytes item) ⌝ }
 {
-    endian_write::write_u64(r, at, item.index.0);
-    endian_write::write_u64(r, at + layout::INDEX_SIZE, item.tag.0);
+    endian::write_u64(r, at, item.index.0);
+    endian::write_u64(r, at + layout::INDEX_SIZE, item.tag.0);
 }
 
 // Sender and addressee in one byte, half for each.
@@ -30,9 +30,9 @@ fn write_fields(r: &mut [u8], fields: Fields)
 {
     r[layout::KIND_AT] = fields.kind;
     r[layout::ADDRESS_AT] = address_byte(fields.sender, fields.addressee);
-    endian_write::write_u32(r, layout::INCARNATION_AT, fields.incarnation.0);
-    endian_write::write_u32(r, layout::OTHER_AT, fields.other.0);
-    endian_write::write_u32(r, layout::ATTEMPT_AT, fields.attempt.0);
+    endian::write_u32(r, layout::INCARNATION_AT, fields.incarnation.0);
+    endian::write_u32(r, layout::OTHER_AT, fields.other.0);
+    endian::write_u32(r, layout::ATTEMPT_AT, fields.attempt.0);
     write_item(r, layout::ITEM_AT, fields.item);
 }
 
@@ -55,7 +55,7 @@ pub fn write_record(r: &mut [u8], next: u16, fields: Fields, rows: [Item; item::
     if r.len() < layout::SIZE {
         return;
     }
-    endian_write::write_u16(r, layout::NEXT_AT, next);
+    endian::write_u16(r, layout::NEXT_AT, next);
     write_fields(r, fields);
     write_rows(r, rows);
 }

@@ -1,2 +1,11 @@
-// Numbers in bytes, little-endian, and zero bytes: definitions and their laws, and no code. Numbers are read in the crate
-// `endian_read` and written in `endian_write`; zero bytes are tested and written in `zero_bytes`.
+// Numbers in bytes, little-endian, and zero bytes: read, written, tested.
+mod read;
+mod write;
+pub mod zeros;
+
+pub use read::read_u16;
+pub use read::read_u32;
+pub use read::read_u64;
+pub use write::write_u16;
+pub use write::write_u32;
+pub use write::write_u64;

@@ -33,7 +33,7 @@ fn wide(x: u8) -> usize
 pub fn first_free(s: &[u8]) -> usize
     ensures { λ r. ⌜ r ≡ firstFree (recordsOf (now (s .entry))) ⌝ }
 {
-    endian_read::read_u16(s, FREE_AT) as usize
+    endian::read_u16(s, FREE_AT) as usize
 }
 
 // The size of the group.
@@ -53,7 +53,7 @@ pub fn first_of(s: &[u8], k: usize) -> usize
     if INBOXES <= k {
         return 0;
     }
-    endian_read::read_u16(s, INBOXES_AT + k * INBOX_SIZE) as usize
+    endian::read_u16(s, INBOXES_AT + k * INBOX_SIZE) as usize
 }
 
 // `i` becomes the first free record.
@@ -63,7 +63,7 @@ pub fn set_first_free(s: &mut [u8], i: usize)
     if s.len() < record::SIZE {
         return;
     }
-    endian_write::write_u16(&mut s[0..record::SIZE], FREE_AT, (i % 65536) as u16);
+    endian::write_u16(&mut s[0..record::SIZE], FREE_AT, (i % 65536) as u16);
 }
 
 // `i` becomes the first record of node `k`'s inbox.
@@ -77,7 +77,7 @@ pub fn set_first_of(s: &mut [u8], k: usize, i: usize)
         return;
     }
     let at = INBOXES_AT + k * INBOX_SIZE;
-    endian_write::write_u16(&mut s[0..record::SIZE], at, (i % 65536) as u16);
+    endian::write_u16(&mut s[0..record::SIZE], at, (i % 65536) as u16);
 }
 
 // `n` becomes the size of the group, as far as one byte holds it.

@@ -1,6 +1,7 @@
 // The link of one record to the next on its chain, and records cleared, at any place of any slice. Everything is proved,
 // no public function has a `requires`, and each gives what one definition of the crate `record` says. A record that does
 // not lie whole within the slice has no next, is not zero and is not written, whatever number is handed in.
+use endian::zeros;
 ghost use mathlib.Core.Path.{_≡_};
 ghost use lib.ListN.{length, drop};
 ghost use Rattle.endian.specs.Zero.{allZero};
@@ -15,7 +16,7 @@ pub fn next(s: &[u8], i: usize) -> usize
         return 0;
     }
     let a = i * record::SIZE;
-    endian_read::read_u16(&s[a..a + record::SIZE], layout::NEXT_AT) as usize
+    endian::read_u16(&s[a..a + record::SIZE], layout::NEXT_AT) as usize
 }
 
 // `next` comes after record `i`, as far as two bytes hold it; no other byte changes.
@@ -27,7 +28,7 @@ pub fn set_next(s: &mut [u8], i: usize, next: usize)
     }
     let a = i * record::SIZE;
     let low = (next % 65536) as u16;
-    endian_write::write_u16(&mut s[a..a + record::SIZE], layout::NEXT_AT, low);
+    endian::write_u16(&mut s[a..a + record::SIZE], layout::NEXT_AT, low);
 }
 
 // Record `i` becomes zeros.
@@ -38,7 +39,7 @@ pub fn clear(s: &mut [u8], i: usize)
         return;
     }
     let a = i * record::SIZE;
-    zero_bytes::clear(&mut s[a..a + record::SIZE]);
+    zeros::clear(&mut s[a..a + record::SIZE]);
 }
 
 // Whether a record is zero after next: its first eight bytes are no more than next, the next eight are 0, and what is left is
@@ -47,14 +48,14 @@ fn blank(r: &[u8]) -> bool
     requires { ⌜ length (now r) ≡ recordSize ⌝ }
     ensures { λ b. ⌜ b ≡ allZero (drop kindAt (now (r .entry))) ⌝ }
 {
-    let next = endian_read::read_u16(r, layout::NEXT_AT) as u64;
-    if endian_read::read_u64(r, layout::NEXT_AT) != next {
+    let next = endian::read_u16(r, layout::NEXT_AT) as u64;
+    if endian::read_u64(r, layout::NEXT_AT) != next {
         return false;
     }
-    if endian_read::read_u64(r, layout::OTHER_AT) != 0 {
+    if endian::read_u64(r, layout::OTHER_AT) != 0 {
         return false;
     }
-    zero_bytes::is_zero(&r[layout::ITEM_AT..])
+    zeros::is_zero(&r[layout::ITEM_AT..])
 }
 
 // Whether record `i` is zero after next, as a free one is.

@@ -35,8 +35,8 @@ fn put_rows(numbers: &mut [u64], r: &[u8])
     while j < item::MAX_NODES {
         let place = layout::ROWS_AT + j * layout::ROW_SIZE;
         let at = ROWS_FIRST + 2 * j;
-        numbers[at] = endian_read::read_u64(r, place);
-        numbers[at + 1] = endian_read::read_u64(r, place + layout::INDEX_SIZE);
+        numbers[at] = endian::read_u64(r, place);
+        numbers[at + 1] = endian::read_u64(r, place + layout::INDEX_SIZE);
         j += 1;
     }
 }

@@ -1,6 +1,7 @@
 // Whether the bytes of one record, as a slice of its own, are a message. Everything is proved, no public function has a
 // `requires`, and each gives what one definition of specs/ says. No message is built: the kind, the fields that it does not
 // use and the bytes after its rows are looked at where they stand, since a pass over a store asks this of every record.
+use endian::zeros;
 use kinds::TABLE;
 ghost use mathlib.Core.Path.{_≡_};
 ghost use Prim.Native.Nat.{_+_, _*_, _≤_};
@@ -31,15 +32,15 @@ fn zero_from_row(r: &[u8], held: usize) -> bool
 {
     if held != 0 {
         let from = layout::ROWS_AT + held * layout::ROW_SIZE;
-        return zero_bytes::is_zero(&r[from..]);
+        return zeros::is_zero(&r[from..]);
     }
-    if endian_read::read_u64(r, layout::ROWS_AT) != 0 {
+    if endian::read_u64(r, layout::ROWS_AT) != 0 {
         return false;
     }
-    if endian_read::read_u64(r, layout::ROWS_AT + layout::INDEX_SIZE) != 0 {
+    if endian::read_u64(r, layout::ROWS_AT + layout::INDEX_SIZE) != 0 {
         return false;
     }
-    zero_bytes::is_zero(&r[layout::ROWS_AT + layout::ROW_SIZE..])
+    zeros::is_zero(&r[layout::ROWS_AT + layout::ROW_SIZE..])
 }
 
 // Whether every byte after the rows of a record is 0 in a group of `n`; not so in bytes that are not as many as a record has.

@@ -26,7 +26,7 @@ fn read_numbers(r: &[u8], n: usize, numbers: &mut [u64]) -> bool
     if !kinds_read::is_known(fields) {
         return false;
     }
-    let next = endian_read::read_u16(r, layout::NEXT_AT) as u64;
+    let next = endian::read_u16(r, layout::NEXT_AT) as u64;
     put(numbers, next, fields, r);
     true
 }

@@ -1,5 +1,6 @@
 // A store over lent bytes set up: every record free. Everything is proved, the public function has no `requires`, and it
 // leaves the bytes that one definition of the crate `store` says. Bytes that are not as long as a store stay as they are.
+use endian::zeros;
 ghost use mathlib.Core.Path.{_≡_};
 ghost use Prim.Native.Nat.{_*_};
 ghost use lib.ListN.{length};
@@ -13,7 +14,7 @@ fn link_free(s: &mut [u8])
     requires { ⌜ length (now s) ≡ recordCount * recordSize ⌝ }
     ensures { λ _. ⌜ recordsOf (now (s .exit)) ≡ linkedRecords recordCount ⌝ }
 {
-    zero_bytes::clear(s);
+    zeros::clear(s);
     let mut i = 1;
     while i < store::RECORDS - 1 {
         links::set_next(s, i, i + 1);

@@ -1,6 +1,7 @@
 // Soundness of a store: the head looked at, the free chain and then each inbox followed once, and at the end every record
 // passed. Everything is proved, the public function has no `requires`, and it gives what one definition of the crate
 // `store` says.
+use endian::zeros;
 use store::Survey;
 use walk::Followed;
 ghost use mathlib.Core.Path.{_≡_};
@@ -25,7 +26,7 @@ fn head_zero(s: &[u8]) -> bool
         return true;
     }
     let from = head::INBOXES_AT + n * head::INBOX_SIZE;
-    zero_bytes::is_zero(&s[from..record::SIZE])
+    zeros::is_zero(&s[from..record::SIZE])
 }
 
 // Before any chain is followed only the head counts as passed.

@@ -1,0 +1,29 @@
+// Zero bytes: a slice tested for them and filled with them. Everything is proved, no public function has a `requires`, and
+// each gives what one definition of the crate `endian` says.
+ghost use mathlib.Core.Path.{_≡_};
+ghost use lib.ListN.{length};
+ghost use Rattle.endian.specs.Zero.{zeros, allZero};
+
+// Whether every byte is 0. All are looked at, by one loop without a way out, which the compiler widens.
+pub fn is_zero(s: &[u8]) -> bool
+    ensures { λ r. ⌜ r ≡ allZero (now (s .entry)) ⌝ }
+{
+    let mut joined: u8 = 0;
+    let mut i = 0;
+    while i < s.len() {
+        joined = joined | s[i];
+        i += 1;
+    }
+    joined == 0
+}
+
+// Every byte becomes 0.
+pub fn clear(s: &mut [u8])
+    ensures { λ _. ⌜ now (s .exit) ≡ zeros (length (now (s .entry))) ⌝ }
+{
+    let mut k = 0;
+    while k < s.len() {
+        s[k] = 0;
+        k += 1;
+    }
+}
