@@ -12,7 +12,7 @@ use Rattle.item.specs.declared.counters.Attempt.{Attempt}
 use Rattle.item.specs.declared.counters.Incarnation.{Incarnation}
 use Rattle.item.specs.declared.Item.{Item}
 use Rattle.item.specs.declared.Row.{Row}
-use Rattle.layout.specs.Layout.{rowsOf}
+use Rattle.record.specs.Layout.{rowsOf}
 use Rattle.message.specs.declared.Message.{Message}
 use Rattle.message.specs.declared.Message.the-variants as message
 use Rattle.message.specs.declared.Reading.{Reading}

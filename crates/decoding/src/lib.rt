@@ -1,16 +1,17 @@
 // The fields and the rows of one record read from its bytes, as a slice of its own. Everything is proved, no public function
-// has a `requires`, and each gives what one definition of the crate `layout` says. In a slice that is too short a field
+// has a `requires`, and each gives what one definition of `record::layout` says. In a slice that is too short a field
 // reads as 0.
 use item::Attempt;
 use item::Incarnation;
 use item::Index;
 use item::Item;
 use item::Tag;
-use kinds::Fields;
+use record::kinds::Fields;
+use record::layout;
 ghost use mathlib.Core.Path.{_≡_};
 ghost use Prim.Native.Nat.{_≤_};
 ghost use lib.ListN.{getD};
-ghost use Rattle.layout.specs.Layout.{recordSize, itemIn, fieldsIn, rowsOf};
+ghost use Rattle.record.specs.Layout.{recordSize, itemIn, fieldsIn, rowsOf};
 
 fn wide(x: u8) -> usize
     ensures { λ r. ⌜ r ≡ x ⌝ }

@@ -1,13 +1,14 @@
 // One record written to its bytes, as a slice of its own. Everything is proved, the public function has no `requires`, and
-// it leaves the bytes that one definition of the crate `layout` says. A slice that is too short is not written.
+// it leaves the bytes that one definition of `record::layout` says. A slice that is too short is not written.
 use item::Item;
-use kinds::Fields;
+use record::kinds::Fields;
+use record::layout;
 ghost use mathlib.Core.Path.{_≡_};
 ghost use Prim.Native.Nat.{_+_, _*_, _≤_};
 ghost use lib.ListN.{length};
 ghost use Rattle.item.specs.Maxima.{maxNodes};
 ghost use Rattle.endian.specs.Part.{withPart};
-ghost use Rattle.layout.specs.Layout.{recordSize, nextAt, kindAt, rowsAt, fieldsSize, rowSize, itemBytes, addressByte, fieldBytes, rowsBytes, layoutBytes};
+ghost use Rattle.record.specs.Layout.{recordSize, nextAt, kindAt, rowsAt, fieldsSize, rowSize, itemBytes, addressByte, fieldBytes, rowsBytes, layoutBytes};
 
 fn write_item(r: &mut [u8], at: usize, item: Item)
     requires { ⌜ at + rowSize ≤ length (now r) ⌝ }

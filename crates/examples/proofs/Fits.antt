@@ -13,9 +13,9 @@ use Rattle.item.specs.Tests.{and-left, and-right}
 use Rattle.item.specs.declared.Item.{Item}
 use Rattle.message.specs.Rows.{heldRows}
 use Rattle.message.specs.declared.Envelope.{Envelope}
-use Rattle.kinds.specs.Kind.{fieldsOf}
-use Rattle.kinds.specs.declared.Fields.{Fields}
-use Rattle.layout.specs.Layout.{indexSize, rowsOf}
+use Rattle.record.specs.Kind.{fieldsOf}
+use Rattle.record.specs.declared.kinds.Fields.{Fields}
+use Rattle.record.specs.Layout.{indexSize, rowsOf}
 use Rattle.record.specs.Record.{recordBytes}
 use Rattle.record.specs.RoundTrip.{ItemFits, RowsFit, FieldsFit, Fits, ReadsBack, reads-back}
 use Rattle.chains.specs.Put.{ForGroup}

@@ -3,7 +3,7 @@ use Rattle.item.specs.Counter.{sameIncarnation, sameAttempt, indexBelow, indexA
 use Rattle.item.specs.Item.{tagsAgree, ranksBelow, sameItem}
 use Rattle.item.specs.Row.{sameRow}
 use Rattle.message.specs.Rows.{rowsHeld, padded, heldRows}
-use Rattle.kinds.specs.Kind.{kindOf, otherOf, attemptOf, itemOf, fieldsOf}
+use Rattle.record.specs.Kind.{kindOf, otherOf, attemptOf, itemOf, fieldsOf}
 use Rattle.store.specs.Change.{countOutgoing}
 use Rattle.protocol.specs.Answer.{refusalNumber, refused, ok, isRefused}
 use Rattle.protocol.specs.Deliver.{onMessage, deliverStep}

@@ -6,8 +6,8 @@ ghost use mathlib.Core.Path.{_≡_};
 ghost use Prim.Native.Nat.{_≤_};
 ghost use lib.ListN.{take};
 ghost use Rattle.item.specs.Maxima.{maxNodes};
-ghost use Rattle.kinds.specs.Kind.{rowsHeld};
-ghost use Rattle.layout.specs.Layout.{padded, heldRows};
+ghost use Rattle.record.specs.Kind.{rowsHeld};
+ghost use Rattle.record.specs.Layout.{padded, heldRows};
 
 // How many rows a record of this message has in a group of `n`.
 pub fn rows_held(message: Message, n: usize) -> usize

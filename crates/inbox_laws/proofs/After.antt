@@ -14,7 +14,7 @@ use Rattle.chains.specs.Sound.{Sound, store-sound}
 use Rattle.chains.specs.Times.{times}
 use Rattle.item.specs.Tests.{by-cond}
 use Rattle.item.specs.declared.Item.{Item}
-use Rattle.layout.specs.Layout.{rowsOf, heldRows}
+use Rattle.record.specs.Layout.{rowsOf, heldRows}
 use Rattle.message.specs.declared.Outgoing.{Outgoing}
 use Rattle.record.specs.Record.{recordBytes}
 use Rattle.message.specs.declared.Reading.{Reading}

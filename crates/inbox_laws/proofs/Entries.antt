@@ -18,7 +18,7 @@ use Rattle.chains.specs.Relinked.{inbox-once, inbox-only}
 use Rattle.chains.specs.Sound.{Sound}
 use Rattle.chains.specs.Times.{times, without, by-same, stands-head, stands-tail, times-head, times-other}
 use Rattle.item.specs.declared.Item.{Item}
-use Rattle.layout.specs.Layout.{rowsOf, heldRows}
+use Rattle.record.specs.Layout.{rowsOf, heldRows}
 use Rattle.message.specs.declared.Envelope.{Envelope}
 use Rattle.message.specs.declared.Outgoing.{Outgoing}
 use Rattle.record.specs.Record.{recordBytes}

@@ -3,7 +3,7 @@ use Prim.Native.Nat.{ℕ}
 use mathlib.Core.List.{List, map}
 use Rattle.chains.specs.Leads.{inboxList}
 use Rattle.item.specs.declared.Item.{Item}
-use Rattle.layout.specs.Layout.{rowsOf}
+use Rattle.record.specs.Layout.{rowsOf}
 use Rattle.message.specs.declared.Reading.{Reading}
 use Rattle.store.specs.Records.{recordIn}
 use Rattle.store.specs.Sound.{messageIn}

@@ -8,7 +8,7 @@ use lib.ListN.{getD, drop}
 use Rattle.chains.specs.Leads.{inboxList}
 use Rattle.chains.specs.Times.{without}
 use Rattle.item.specs.declared.Item.{Item}
-use Rattle.layout.specs.Layout.{rowsOf, heldRows}
+use Rattle.record.specs.Layout.{rowsOf, heldRows}
 use Rattle.message.specs.declared.Envelope.{Envelope}
 use Rattle.message.specs.declared.Outgoing.{Outgoing}
 use Rattle.message.specs.declared.Reading.{Reading}

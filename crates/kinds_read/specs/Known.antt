@@ -2,9 +2,9 @@
 use mathlib.Core.Path.{_≡_, refl}
 use mathlib.Core.Bool.{Bool, true, false}
 use Rattle.message.specs.declared.Message.{Message}
-use Rattle.kinds.specs.Kind.{knownIf}
-use Rattle.kinds.specs.declared.Known.{Known}
-use Rattle.kinds.specs.declared.Known.the-variants as known
+use Rattle.record.specs.Kind.{knownIf}
+use Rattle.record.specs.declared.kinds.Known.{Known}
+use Rattle.record.specs.declared.kinds.Known.the-variants as known
 
 unfoldable pub isKnown : Known → Bool
 isKnown known.Unknown = false

@@ -3,17 +3,17 @@
 use item::Attempt;
 use item::Incarnation;
 use item::Item;
-use kinds::CONFIRM;
-use kinds::CONFIRMED;
-use kinds::FETCH;
-use kinds::Fields;
-use kinds::Known;
-use kinds::STORE;
-use kinds::STORED;
-use kinds::TABLE;
 use message::Message;
+use record::kinds::CONFIRM;
+use record::kinds::CONFIRMED;
+use record::kinds::FETCH;
+use record::kinds::Fields;
+use record::kinds::Known;
+use record::kinds::STORE;
+use record::kinds::STORED;
+use record::kinds::TABLE;
 ghost use mathlib.Core.Path.{_≡_};
-ghost use Rattle.kinds.specs.Kind.{messageOf, noWrite, knownIf};
+ghost use Rattle.record.specs.Kind.{messageOf, noWrite, knownIf};
 ghost use Rattle.kinds_read.specs.Known.{isKnown};
 
 // Whether there is neither attempt nor item.

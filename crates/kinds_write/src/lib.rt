@@ -1,19 +1,19 @@
 // What a message has in each field of its record. Everything is proved, the public function has no `requires`, and it gives
-// what one definition of the crate `kinds` says.
+// what one definition of `record::kinds` says.
 use item::Attempt;
 use item::Incarnation;
 use item::Item;
-use kinds::CONFIRM;
-use kinds::CONFIRMED;
-use kinds::FETCH;
-use kinds::Fields;
-use kinds::STORE;
-use kinds::STORED;
-use kinds::TABLE;
 use message::Envelope;
 use message::Message;
+use record::kinds::CONFIRM;
+use record::kinds::CONFIRMED;
+use record::kinds::FETCH;
+use record::kinds::Fields;
+use record::kinds::STORE;
+use record::kinds::STORED;
+use record::kinds::TABLE;
 ghost use mathlib.Core.Path.{_≡_};
-ghost use Rattle.kinds.specs.Kind.{filled, fieldsOf};
+ghost use Rattle.record.specs.Kind.{filled, fieldsOf};
 
 // The fields of an envelope, with these where kinds differ.
 fn filled(envelope: Envelope, kind: u8, other: Incarnation, attempt: Attempt, item: Item) -> Fields

@@ -2,6 +2,7 @@
 // no public function has a `requires`, and each gives what one definition of the crate `record` says. A record that does
 // not lie whole within the slice has no next, is not zero and is not written, whatever number is handed in.
 use endian::zeros;
+use record::layout;
 ghost use mathlib.Core.Path.{_≡_};
 ghost use lib.ListN.{length, drop};
 ghost use Rattle.endian.specs.Zero.{allZero};

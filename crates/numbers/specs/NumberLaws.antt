@@ -20,18 +20,18 @@ use Rattle.endian.specs.PartLaws.{by-order, sets-is, with-joined}
 use Rattle.endian.specs.Zero.{allZero}
 use Rattle.endian.specs.ZeroLaws.{both, or-zero}
 use Rattle.endian.specs.Number.{numberAt}
-use Rattle.kinds.specs.Kind.{messageOf, rowsHeld}
-use Rattle.layout.specs.Layout.{rowsAt, rowSize, indexSize, itemIn, rowsOf}
-use Rattle.layout.specs.LayoutLaws as row-laws
-use Rattle.kinds.specs.declared.Fields.{Fields}
-use Rattle.kinds.specs.declared.Known.the-variants as known
+use Rattle.record.specs.Kind.{messageOf, rowsHeld}
+use Rattle.record.specs.Layout.{rowsAt, rowSize, indexSize, itemIn, rowsOf}
+use Rattle.record.specs.LayoutLaws as row-laws
+use Rattle.record.specs.declared.kinds.Fields.{Fields}
+use Rattle.record.specs.declared.kinds.Known.the-variants as known
 use Rattle.message.specs.declared.Message as kind
 use Rattle.record.specs.Record.{envelopeOf}
 use Rattle.readable.specs.Readable.{rowsOfKind}
 use Rattle.readable.specs.ReadableLaws.{rows-read}
 use Rattle.kinds_read.specs.Known.{isKnown}
 use Rattle.message.specs.declared.Envelope.{Envelope}
-use Rattle.kinds.specs.declared.Known.{Known}
+use Rattle.record.specs.declared.kinds.Known.{Known}
 use Rattle.numbers.specs.declared.Stated.the-variants.{Message, Refused}
 use Rattle.numbers.specs.Numbers.{rowsFirst, rowsCount, numberCount, fieldNumbers, rowNumbers, numbersOf, itemFrom, fieldsFrom, itemsFrom, rowsFrom, numbersFit, statedAs, stated, isStated}
 

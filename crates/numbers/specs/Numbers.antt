@@ -9,10 +9,10 @@ use Rattle.item.specs.Maxima.{maxNodes}
 use Rattle.item.specs.declared.Item.{Item}
 use Rattle.message.specs.declared.Envelope.{Envelope}
 use Rattle.endian.specs.Zero.{allZero}
-use Rattle.kinds.specs.Kind.{fieldsOf, messageOf, rowsHeld}
-use Rattle.kinds.specs.declared.Fields.{Fields}
-use Rattle.kinds.specs.declared.Known.{Known}
-use Rattle.kinds.specs.declared.Known.the-variants as known
+use Rattle.record.specs.Kind.{fieldsOf, messageOf, rowsHeld}
+use Rattle.record.specs.declared.kinds.Fields.{Fields}
+use Rattle.record.specs.declared.kinds.Known.{Known}
+use Rattle.record.specs.declared.kinds.Known.the-variants as known
 use Rattle.record.specs.Layout.{nextOf, rowsOf}
 use Rattle.record.specs.Record.{envelopeOf, recordBytes, readRecord}
 unfoldable pub use Rattle.readable.specs.Readable.{isFound}

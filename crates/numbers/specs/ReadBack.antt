@@ -15,11 +15,11 @@ use Rattle.message.specs.declared.Message as kind
 use Rattle.endian.specs.PartLaws.{by-order}
 use Rattle.endian.specs.Zero.{zeros, allZero}
 use Rattle.endian.specs.ZeroLaws.{all-zero-is, length-zeros}
-use Rattle.kinds.specs.Kind.{fieldsOf, messageOf, rowsHeld}
-use Rattle.kinds.specs.declared.Fields.{Fields}
-use Rattle.kinds.specs.declared.Known.{Known}
-use Rattle.kinds.specs.declared.Known.the-variants as known
-use Rattle.layout.specs.Layout.{padded, heldRows, layoutBytes}
+use Rattle.record.specs.Kind.{fieldsOf, messageOf, rowsHeld}
+use Rattle.record.specs.declared.kinds.Fields.{Fields}
+use Rattle.record.specs.declared.kinds.Known.{Known}
+use Rattle.record.specs.declared.kinds.Known.the-variants as known
+use Rattle.record.specs.Layout.{padded, heldRows, layoutBytes}
 use Rattle.record.specs.Layout.{nextOf, rowsOf}
 use Rattle.record.specs.Record.{envelopeOf, recordBytes, readRecord}
 use Rattle.record.specs.RoundTrip.{ItemFits, RowsFit, FieldsFit, Fits, ReadsBack, reads-back, fields-again}

@@ -1,13 +1,14 @@
 // The numbers of a record put into a lent slice. Everything is proved, no public function has a
 // `requires`, and each gives what one definition of the crate `numbers` says.
-use kinds::Fields;
 use numbers::COUNT;
 use numbers::ROWS_FIRST;
+use record::kinds::Fields;
+use record::layout;
 ghost use Prim.Native.Nat.{_≤_};
 ghost use mathlib.Core.Path.{_≡_};
 ghost use lib.ListN.{length};
 ghost use Rattle.endian.specs.Part.{withPart};
-ghost use Rattle.layout.specs.Layout.{rowsOf};
+ghost use Rattle.record.specs.Layout.{rowsOf};
 ghost use Rattle.numbers.specs.Numbers.{fieldNumbers, numberCount, numbersOf, rowNumbers, rowsCount, rowsFirst};
 
 // The numbers before the rows.

@@ -11,7 +11,7 @@ use lib.Seq.{getD-set-same, getD-set-other}
 use borrow.Author.Tests.{le-ltb}
 use Rattle.chains.specs.Sound.{store-sound}
 use Rattle.item.specs.Maxima.{maxNodes}
-use Rattle.layout.specs.Layout.{rowsOf}
+use Rattle.record.specs.Layout.{rowsOf}
 use Rattle.message.specs.declared.Envelope.{Envelope}
 use Rattle.message.specs.declared.Reading.{Reading}
 use Rattle.message.specs.declared.Reading.the-variants.{Found}

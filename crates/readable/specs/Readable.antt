@@ -7,8 +7,8 @@ use lib.Dec.{eqb}
 use lib.ListN.{length, getD, drop}
 use Rattle.item.specs.Maxima.{maxNodes}
 use Rattle.endian.specs.Zero.{allZero}
-use Rattle.kinds.specs.Kind.{tableKind}
-use Rattle.layout.specs.Layout.{recordSize, kindAt, rowsAt, rowSize}
+use Rattle.record.specs.Kind.{tableKind}
+use Rattle.record.specs.Layout.{recordSize, kindAt, rowsAt, rowSize}
 use Rattle.record.specs.Record.{readRecord}
 use Rattle.message.specs.declared.Reading.{Reading}
 use Rattle.message.specs.declared.Reading.the-variants.{Found, Fault}

@@ -12,11 +12,11 @@ use Rattle.message.specs.declared.Message.{Message}
 use Rattle.message.specs.declared.Message.the-variants.{Store, Stored, Confirm, Confirmed, Fetch, Table}
 use Rattle.message.specs.declared.Envelope.{Envelope}
 use Rattle.endian.specs.Zero.{allZero}
-use Rattle.kinds.specs.Kind.{tableKind, kindOf, fieldsOf, messageOf, rowsHeld}
-use Rattle.kinds.specs.declared.Fields.{Fields}
-use Rattle.kinds.specs.declared.Known.{Known}
-use Rattle.kinds.specs.declared.Known.the-variants as known
-use Rattle.layout.specs.Layout.{recordSize, kindAt, rowsAt, rowSize, fieldsIn}
+use Rattle.record.specs.Kind.{tableKind, kindOf, fieldsOf, messageOf, rowsHeld}
+use Rattle.record.specs.declared.kinds.Fields.{Fields}
+use Rattle.record.specs.declared.kinds.Known.{Known}
+use Rattle.record.specs.declared.kinds.Known.the-variants as known
+use Rattle.record.specs.Layout.{recordSize, kindAt, rowsAt, rowSize, fieldsIn}
 use Rattle.record.specs.Record.{readRecord, readAs, zeroAfterRows, envelopeOf}
 use Rattle.record.specs.RoundTrip.{fields-again}
 use Rattle.message.specs.declared.Reading.{Reading}

@@ -2,13 +2,14 @@
 // `requires`, and each gives what one definition of specs/ says. No message is built: the kind, the fields that it does not
 // use and the bytes after its rows are looked at where they stand, since a pass over a store asks this of every record.
 use endian::zeros;
-use kinds::TABLE;
+use record::kinds::TABLE;
+use record::layout;
 ghost use mathlib.Core.Path.{_≡_};
 ghost use Prim.Native.Nat.{_+_, _*_, _≤_};
 ghost use lib.ListN.{length, drop};
 ghost use Rattle.item.specs.Maxima.{maxNodes};
 ghost use Rattle.endian.specs.Zero.{allZero};
-ghost use Rattle.layout.specs.Layout.{recordSize, rowsAt, rowSize};
+ghost use Rattle.record.specs.Layout.{recordSize, rowsAt, rowSize};
 ghost use Rattle.readable.specs.Readable.{readable, rowsOfKind, zeroAfterKind};
 
 // How many rows a record of this kind has in a group of `n`.

@@ -1,7 +1,9 @@
+pub mod Kind
+pub mod KindLaws
+pub mod Layout
+pub mod LayoutLaws
 pub mod Chunk
 pub mod ChunkLaws
-pub mod Layout
-pub mod Kind
 pub mod Record
 pub mod RecordLaws
 pub mod RoundTrip

@@ -9,14 +9,14 @@ use Rattle.message.specs.declared.Message.{Message}
 use Rattle.message.specs.declared.Envelope.{Envelope}
 use Rattle.endian.specs.Number.{withNumber}
 use Rattle.endian.specs.Zero.{zeros, allZero}
-use Rattle.kinds.specs.declared.Fields.{Fields}
-use Rattle.kinds.specs.declared.Known.{Known}
-use Rattle.kinds.specs.declared.Known.the-variants as known
+use Rattle.record.specs.declared.kinds.Fields.{Fields}
+use Rattle.record.specs.declared.kinds.Known.{Known}
+use Rattle.record.specs.declared.kinds.Known.the-variants as known
 use Rattle.message.specs.declared.Reading.{Reading}
 use Rattle.message.specs.declared.Reading.the-variants.{Found, Fault}
-use Rattle.layout.specs.Layout.{recordSize, rowsAt, rowSize, nextAt, kindAt, fieldsIn, layoutBytes}
-use Rattle.kinds.specs.Kind.{fieldsOf, messageOf, rowsHeld}
-pub use Rattle.layout.specs.Layout.{heldRows}
+use Rattle.record.specs.Layout.{recordSize, rowsAt, rowSize, nextAt, kindAt, fieldsIn, layoutBytes}
+use Rattle.record.specs.Kind.{fieldsOf, messageOf, rowsHeld}
+pub use Rattle.record.specs.Layout.{heldRows}
 
 -- the bytes of a record that holds a message, for a group of n
 unfoldable pub recordBytes : ℕ → ℕ → Envelope → List Item → List ℕ

@@ -15,11 +15,11 @@ use Rattle.endian.specs.NumberLaws.{bytes-low}
 use Rattle.record.specs.Chunk.{chunk, withChunk}
 use Rattle.record.specs.Layout.{recordOf, withRecord}
 use Rattle.message.specs.declared.Message.{Message}
-use Rattle.kinds.specs.declared.Fields.{Fields}
-use Rattle.kinds.specs.declared.Known.the-variants as known
+use Rattle.record.specs.declared.kinds.Fields.{Fields}
+use Rattle.record.specs.declared.kinds.Known.the-variants as known
 use Rattle.message.specs.declared.Reading.the-variants.{Found}
-use Rattle.layout.specs.Layout.{recordSize, kindAt, fieldsIn}
-use Rattle.kinds.specs.Kind.{messageOf}
+use Rattle.record.specs.Layout.{recordSize, kindAt, fieldsIn}
+use Rattle.record.specs.Kind.{messageOf}
 use Rattle.record.specs.Record.{readRecord, readAs, zeroAfterRows, envelopeOf}
 
 -- a record whose fields are a message, with zeros after its rows

@@ -24,14 +24,14 @@ use Rattle.endian.specs.Number.{value, bytes, numberAt, AreBytes}
 use Rattle.endian.specs.NumberLaws.{length-bytes, value-bytes, number-again}
 use Rattle.endian.specs.Zero.{zeros, allZero}
 use Rattle.endian.specs.ZeroLaws.{both, all-zero-append, all-zero-is}
-use Rattle.kinds.specs.declared.Fields.{Fields}
-use Rattle.kinds.specs.declared.Known.{Known}
-use Rattle.kinds.specs.declared.Known.the-variants as known
+use Rattle.record.specs.declared.kinds.Fields.{Fields}
+use Rattle.record.specs.declared.kinds.Known.{Known}
+use Rattle.record.specs.declared.kinds.Known.the-variants as known
 use Rattle.message.specs.declared.Reading.{Reading}
 use Rattle.message.specs.declared.Reading.the-variants.{Found, Fault}
-use Rattle.layout.specs.Layout.{recordSize, kindAt, addressAt, incarnationAt, otherAt, attemptAt, itemAt, rowsAt, indexSize, rowSize, itemBytes, addressByte, fieldBytes, rowsBytes, padded, itemIn, fieldsIn, itemsIn, rowsOf, nextOf, heldRows}
-use Rattle.layout.specs.LayoutLaws.{length-item, length-fields, length-rows, length-padded}
-use Rattle.kinds.specs.Kind.{kindOf, otherOf, attemptOf, itemOf, noIncarnation, filled, fieldsOf, noWrite, messageOf, rowsHeld}
+use Rattle.record.specs.Layout.{recordSize, kindAt, addressAt, incarnationAt, otherAt, attemptAt, itemAt, rowsAt, indexSize, rowSize, itemBytes, addressByte, fieldBytes, rowsBytes, padded, itemIn, fieldsIn, itemsIn, rowsOf, nextOf, heldRows}
+use Rattle.record.specs.LayoutLaws.{length-item, length-fields, length-rows, length-padded}
+use Rattle.record.specs.Kind.{kindOf, otherOf, attemptOf, itemOf, noIncarnation, filled, fieldsOf, noWrite, messageOf, rowsHeld}
 use Rattle.record.specs.Record.{recordBytes, envelopeOf, zeroAfterRows, readAs, readRecord}
 use Rattle.record.specs.RecordLaws.{read-found}
 

@@ -1,6 +1,7 @@
-// One record of the message store: its definitions, and the theorems that reading and writing undo each other. By them the
-// crates `record_read` and `record_rows` read a record, `record_write` writes one, and `links` keeps its link. Everything
-// is proved, and no public function has a `requires`.
+// One record of the message store: its kinds and layout, what reading and writing give, and the theorems that they undo each other.
+pub mod kinds;
+pub mod layout;
+
 ghost use Rattle.record.specs.RoundTrip.{ReadsBack, WritesBack, Differ};
 
 // The bytes of a record.

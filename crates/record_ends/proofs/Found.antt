@@ -3,9 +3,9 @@ use Prim.Native.Nat.{ℕ}
 use mathlib.Core.Path.{_≡_, refl, sym, ap, _∙_}
 use mathlib.Core.Bool.{true, false, false≢true}
 use mathlib.Core.List.{List}
-use Rattle.kinds.specs.Kind.{fieldsOf}
-use Rattle.kinds.specs.declared.Fields.{Fields}
-use Rattle.layout.specs.Layout.{fieldsIn}
+use Rattle.record.specs.Kind.{fieldsOf}
+use Rattle.record.specs.declared.kinds.Fields.{Fields}
+use Rattle.record.specs.Layout.{fieldsIn}
 use Rattle.record.specs.Record.{readRecord}
 use Rattle.message.specs.declared.Reading.{Reading}
 use Rattle.message.specs.declared.Reading.the-variants as reading

@@ -12,9 +12,9 @@ use Rattle.item.specs.Maxima.{maxNodes}
 use Rattle.item.specs.declared.Item.{Item}
 use Rattle.endian.specs.Part.{withPart}
 use Rattle.endian.specs.PartLaws.{with-all}
-use Rattle.kinds.specs.declared.Fields.{Fields}
-use Rattle.layout.specs.Layout.{rowsOf, nextOf, nextAt, fieldsIn, layoutBytes}
-use Rattle.layout.specs.LayoutLaws.{length-layout}
+use Rattle.record.specs.declared.kinds.Fields.{Fields}
+use Rattle.record.specs.Layout.{rowsOf, nextOf, nextAt, fieldsIn, layoutBytes}
+use Rattle.record.specs.LayoutLaws.{length-layout}
 use Rattle.numbers.specs.Numbers.{numberCount, rowsFirst, fieldNumbers, rowNumbers, numbersOf, fieldsFrom, rowsFrom, stated, numbersAs, recordNumbers, numbersBytes, isFound, isStated}
 use Rattle.numbers.specs.NumberLaws.{length-field-numbers, length-row-numbers, length-rows-from, length-rows-in}
 use Rattle.numbers.specs.ReadBack.{bytes-straight}

@@ -6,6 +6,7 @@ use numbers_read::is_stated;
 use numbers_rows::rows_in;
 use numbers_write::put;
 use record::SIZE;
+use record::layout;
 ghost use mathlib.Core.Path.{_≡_};
 ghost use mathlib.Core.Bool.{cond};
 ghost use lib.ListN.{length};

@@ -1,10 +1,10 @@
 // The message of one record, read at any place of any slice. Everything is proved, the public function has no `requires`, and
 // it gives what one definition of the crate `record` says. A record that does not lie whole within the slice reads as
 // nothing, whatever number is handed in.
-use kinds::Known;
 use message::Envelope;
 use message::Reading;
 use record::SIZE;
+use record::kinds::Known;
 ghost use mathlib.Core.Path.{_≡_};
 ghost use lib.ListN.{length};
 ghost use Rattle.record.specs.Layout.{recordSize, recordOf};

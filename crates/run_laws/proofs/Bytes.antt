@@ -11,13 +11,13 @@ use Rattle.endian.specs.Zero.{zeros}
 use Rattle.item.specs.Maxima.{tagSize}
 use Rattle.item.specs.Tests.{by-cond}
 use Rattle.item.specs.declared.Item.{Item}
-use Rattle.kinds.specs.declared.Fields.{Fields}
+use Rattle.record.specs.declared.kinds.Fields.{Fields}
 use Rattle.message.specs.declared.Envelope.{Envelope}
 use Rattle.message.specs.declared.Message.{Message}
 use Rattle.message.specs.declared.Message.the-variants as message
 use Rattle.message.specs.declared.Outgoing.{Outgoing}
-use Rattle.kinds.specs.Kind.{kindOf, fieldsOf}
-use Rattle.layout.specs.Layout.{recordSize, nextAt, indexSize, itemBytes, addressByte, fieldBytes, rowsBytes, heldRows}
+use Rattle.record.specs.Kind.{kindOf, fieldsOf}
+use Rattle.record.specs.Layout.{recordSize, nextAt, indexSize, itemBytes, addressByte, fieldBytes, rowsBytes, heldRows}
 use Rattle.record.specs.Chunk.{cut}
 use Rattle.record.specs.Record.{recordBytes, withNext, noRecord}
 use Rattle.store.specs.Chain.{beforeFrom, nextIn}

@@ -13,7 +13,7 @@ use borrow.Author.Tests.{eq-eqb, ltb-true, ltb-false}
 use Rattle.item.specs.Maxima.{maxNodes, tagSize, validSize}
 use Rattle.item.specs.Tests.{by-cond, and-left, and-right, and-both}
 use Rattle.item.specs.declared.Tag.{Tag}
-use Rattle.layout.specs.Layout.{rowsOf, heldRows}
+use Rattle.record.specs.Layout.{rowsOf, heldRows}
 use Rattle.message.specs.declared.Envelope.{Envelope}
 use Rattle.message.specs.declared.Outgoing.{Outgoing}
 use Rattle.record.specs.Record.{readRecord, recordBytes}

@@ -19,12 +19,12 @@ use Rattle.item.specs.Item.{zeroItem}
 use Rattle.item.specs.Maxima.{maxNodes, tagSize}
 use Rattle.item.specs.Tests.{by-cond, and-left, and-right}
 use Rattle.item.specs.declared.Item.{Item}
-use Rattle.kinds.specs.declared.Fields.{Fields}
-use Rattle.kinds.specs.declared.Known.{Known}
-use Rattle.kinds.specs.declared.Known.the-variants as known
-use Rattle.kinds.specs.Kind.{storeKind, storedKind, confirmKind, confirmedKind, fetchKind, tableKind, noIncarnation, noWrite, messageOf, rowsHeld, otherOf, attemptOf, itemOf}
-use Rattle.layout.specs.Layout.{recordSize, incarnationAt, otherAt, attemptAt, itemAt, rowsAt, indexSize, rowSize, itemIn, itemsIn, fieldsIn, rowsOf}
-use Rattle.layout.specs.LayoutLaws.{length-items, getD-items}
+use Rattle.record.specs.declared.kinds.Fields.{Fields}
+use Rattle.record.specs.declared.kinds.Known.{Known}
+use Rattle.record.specs.declared.kinds.Known.the-variants as known
+use Rattle.record.specs.Kind.{storeKind, storedKind, confirmKind, confirmedKind, fetchKind, tableKind, noIncarnation, noWrite, messageOf, rowsHeld, otherOf, attemptOf, itemOf}
+use Rattle.record.specs.Layout.{recordSize, incarnationAt, otherAt, attemptAt, itemAt, rowsAt, indexSize, rowSize, itemIn, itemsIn, fieldsIn, rowsOf}
+use Rattle.record.specs.LayoutLaws.{length-items, getD-items}
 use Rattle.message.specs.declared.Envelope.{Envelope}
 use Rattle.message.specs.declared.Message.{Message}
 use Rattle.message.specs.declared.Message.the-variants as message

@@ -19,9 +19,9 @@ use Rattle.endian.specs.Number.{value, bytes, numberAt, withNumber}
 use Rattle.endian.specs.NumberLaws.{length-bytes, length-with-number, number-of-with}
 use Rattle.endian.specs.Zero.{zeros, allZero}
 use Rattle.endian.specs.ZeroLaws.{length-zeros, zeros-are-zero}
-use Rattle.kinds.specs.declared.Fields.{Fields}
-use Rattle.kinds.specs.declared.Known.{Known}
-use Rattle.kinds.specs.declared.Known.the-variants as known
+use Rattle.record.specs.declared.kinds.Fields.{Fields}
+use Rattle.record.specs.declared.kinds.Known.{Known}
+use Rattle.record.specs.declared.kinds.Known.the-variants as known
 use Rattle.message.specs.declared.Reading.{Reading}
 use Rattle.message.specs.declared.Reading.the-variants.{Found, Fault}
 use Rattle.record.specs.Layout.{recordSize, nextAt, kindAt, addressAt, incarnationAt, otherAt, attemptAt, itemAt, rowsAt, rowSize, indexSize, itemIn, itemsIn, fieldsIn, rowsOf, nextOf}

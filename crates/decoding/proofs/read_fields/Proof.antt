@@ -1,5 +1,5 @@
 -- `decoding::read_fields` meets its contract: each field as in the definition.
-use Rattle.layout.specs.Layout.{fieldsIn}
+use Rattle.record.specs.Layout.{fieldsIn}
 use borrow.Author.Needs.{needs}
 use Rattle.decoding.proofs.read_fields.Statement.{statement}
 use Rattle.decoding.proofs.read_fields.Tie as tie

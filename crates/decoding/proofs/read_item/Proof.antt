@@ -1,5 +1,5 @@
 -- `decoding::read_item` meets its contract: two numbers, as in the definition.
-use Rattle.layout.specs.Layout.{itemIn}
+use Rattle.record.specs.Layout.{itemIn}
 use borrow.Author.Needs.{needs}
 use Rattle.decoding.proofs.read_item.Statement.{statement}
 use Rattle.decoding.proofs.read_item.Tie as tie

@@ -1,6 +1,6 @@
 -- `encoding::address_byte` meets its contract.
 use mathlib.Core.Path.{refl}
-use Rattle.layout.specs.Layout.{addressByte}
+use Rattle.record.specs.Layout.{addressByte}
 use borrow.Author.Needs.{needs}
 use Rattle.encoding.proofs.address_byte.Statement.{statement}
 use Rattle.encoding.proofs.address_byte.Tie as tie

@@ -5,8 +5,8 @@ use lib.ListN.{length-set}
 use mathlib.Core.Path.{_∙_}
 use native.Mathlib.Omega.{arith}
 use denote.Ref.{now}
-use Rattle.layout.specs.Layout.{rowSize, itemAt, itemBytes}
-use Rattle.layout.specs.LayoutLaws.{with-fields, length-item}
+use Rattle.record.specs.Layout.{rowSize, itemAt, itemBytes}
+use Rattle.record.specs.LayoutLaws.{with-fields, length-item}
 use borrow.Author.Needs.{needs}
 use Rattle.encoding.proofs.write_fields.Statement.{statement}
 use Rattle.encoding.proofs.write_fields.Tie as tie

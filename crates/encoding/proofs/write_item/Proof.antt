@@ -1,6 +1,6 @@
 -- `encoding::write_item` meets its contract: two numbers that meet are one part, by `with-item`.
 use denote.Ref.{now}
-use Rattle.layout.specs.LayoutLaws.{with-item}
+use Rattle.record.specs.LayoutLaws.{with-item}
 use borrow.Author.Needs.{needs}
 use Rattle.encoding.proofs.write_item.Statement.{statement}
 use Rattle.encoding.proofs.write_item.Tie as tie

@@ -1,11 +1,11 @@
 -- `encoding::write_record` meets its contract: three groups that meet are the record, by `with-groups`.
-use Rattle.layout.specs.LayoutLaws.{length-mapped}
+use Rattle.record.specs.LayoutLaws.{length-mapped}
 use native.Mathlib.Omega.{arith}
 use mathlib.Core.Path.{sym}
 use denote.Ref.{now}
 use Rattle.endian.specs.PartLaws.{with-none}
-use Rattle.layout.specs.Layout.{recordSize}
-use Rattle.layout.specs.LayoutLaws.{with-groups}
+use Rattle.record.specs.Layout.{recordSize}
+use Rattle.record.specs.LayoutLaws.{with-groups}
 use borrow.Author.Needs.{needs}
 use Rattle.encoding.proofs.write_record.Statement.{statement}
 use Rattle.encoding.proofs.write_record.Tie as tie

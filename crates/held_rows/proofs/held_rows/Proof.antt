@@ -1,6 +1,6 @@
 -- `held_rows::held_rows` meets its contract: as many rows as the kind has, padded.
-use Rattle.kinds.specs.KindLaws.{rows-held-most}
-use Rattle.layout.specs.Layout.{heldRows}
+use Rattle.record.specs.KindLaws.{rows-held-most}
+use Rattle.record.specs.Layout.{heldRows}
 use borrow.Author.Needs.{needs}
 use Rattle.held_rows.proofs.held_rows.Statement.{statement}
 use Rattle.held_rows.proofs.held_rows.Tie as tie

@@ -1,7 +1,7 @@
 -- `held_rows::padded_rows` meets its contract. The invariant: the rows passed are padded, the others as they were.
 use Rattle.held_rows.proofs.Padding.{padded-start, padded-turn, padded-end}
-use Rattle.layout.specs.LayoutLaws.{length-mapped}
-use Rattle.layout.specs.Layout.{padded}
+use Rattle.record.specs.LayoutLaws.{length-mapped}
+use Rattle.record.specs.Layout.{padded}
 use lib.Seq.{length-take-le}
 use lib.ListN.{length, take, drop, length-set}
 use mathlib.Core.List.{_++_}

@@ -1,6 +1,6 @@
 -- `held_rows::rows_held` meets its contract: an arm for each kind, as in the definition.
 use native.Mathlib.Omega.{arith}
-use Rattle.kinds.specs.Kind.{rowsHeld}
+use Rattle.record.specs.Kind.{rowsHeld}
 use borrow.Author.Needs.{needs}
 use Rattle.held_rows.proofs.rows_held.Statement.{statement}
 use Rattle.held_rows.proofs.rows_held.Tie as tie

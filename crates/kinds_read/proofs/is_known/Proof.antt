@@ -2,7 +2,7 @@
 use mathlib.Core.Path.{sym}
 use borrow.Author.Tests.{ne-eqb}
 use Rattle.item.specs.Tests.{refuted, granted}
-use Rattle.kinds.specs.Kind.{messageOf}
+use Rattle.record.specs.Kind.{messageOf}
 use Rattle.kinds_read.specs.Known.{isKnown, known-if}
 use borrow.Author.Needs.{needs}
 use Rattle.kinds_read.proofs.is_known.Statement.{statement}

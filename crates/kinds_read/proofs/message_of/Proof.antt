@@ -1,7 +1,7 @@
 -- `kinds_read::message_of` meets its contract: an arm for each kind, as in the definition.
 use borrow.Author.Tests.{ne-eqb}
 use Rattle.item.specs.Tests.{refuted, granted}
-use Rattle.kinds.specs.Kind.{messageOf}
+use Rattle.record.specs.Kind.{messageOf}
 use borrow.Author.Needs.{needs}
 use Rattle.kinds_read.proofs.message_of.Statement.{statement}
 use Rattle.kinds_read.proofs.message_of.Tie as tie

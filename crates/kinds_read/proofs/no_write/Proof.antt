@@ -1,6 +1,6 @@
 -- `kinds_read::no_write` meets its contract: an early return for the attempt.
 use Rattle.item.specs.Tests.{refuted, granted}
-use Rattle.kinds.specs.Kind.{noWrite}
+use Rattle.record.specs.Kind.{noWrite}
 use borrow.Author.Needs.{needs}
 use Rattle.kinds_read.proofs.no_write.Statement.{statement}
 use Rattle.kinds_read.proofs.no_write.Tie as tie

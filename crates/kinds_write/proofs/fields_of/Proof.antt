@@ -1,5 +1,5 @@
 -- `kinds_write::fields_of` meets its contract: an arm for each kind, as in the definitions.
-use Rattle.kinds.specs.Kind.{fieldsOf, kindOf, otherOf, attemptOf, itemOf}
+use Rattle.record.specs.Kind.{fieldsOf, kindOf, otherOf, attemptOf, itemOf}
 use borrow.Author.Needs.{needs}
 use Rattle.kinds_write.proofs.fields_of.Statement.{statement}
 use Rattle.kinds_write.proofs.fields_of.Tie as tie

@@ -1,7 +1,7 @@
 -- `links::next` meets its contract: 0 past the end, else the number in the part lent.
 use Rattle.endian.specs.Part.{part, whole}
 use Rattle.endian.specs.Number.{numberAt, value}
-use Rattle.layout.specs.Layout.{nextOf}
+use Rattle.record.specs.Layout.{nextOf}
 use native.Mathlib.Omega.{arith}
 use mathlib.Core.Path.{ap, _∙_}
 use denote.Ref.{now}

@@ -3,7 +3,7 @@ use native.Mathlib.Omega.{arith}
 use denote.Ref.{now}
 use mathlib.Core.Path.{sym}
 use Rattle.endian.specs.PartLaws.{with-none}
-use Rattle.layout.specs.Layout.{rowsOf}
+use Rattle.record.specs.Layout.{rowsOf}
 use Rattle.numbers.specs.Numbers.{numberCount}
 use Rattle.numbers.specs.NumberLaws.{length-rows-in, with-all-numbers}
 use borrow.Author.Needs.{needs}

@@ -10,7 +10,7 @@ use Rattle.item.specs.Maxima.{maxNodes}
 use Rattle.item.specs.declared.Item.{Item}
 use Rattle.endian.specs.Part.{withPart}
 use Rattle.endian.specs.PartLaws.{with-nothing}
-use Rattle.layout.specs.Layout.{rowsOf}
+use Rattle.record.specs.Layout.{rowsOf}
 use Rattle.numbers.specs.Numbers.{rowsFirst, rowsCount, numberCount, rowNumbers}
 use Rattle.numbers.specs.NumberLaws.{length-rows-in, with-row-read}
 use borrow.Author.Needs.{needs}

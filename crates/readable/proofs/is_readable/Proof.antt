@@ -1,8 +1,8 @@
 -- `readable::is_readable` meets its contract: no message where a byte stands after the rows, else what the fields say.
 use mathlib.Core.Path.{sym, ap, _∙_}
 use Rattle.item.specs.Tests.{refuted, granted}
-use Rattle.kinds.specs.Kind.{messageOf}
-use Rattle.kinds.specs.declared.Fields.{Fields}
+use Rattle.record.specs.Kind.{messageOf}
+use Rattle.record.specs.declared.kinds.Fields.{Fields}
 use Rattle.kinds_read.specs.Known.{isKnown}
 use Rattle.readable.specs.ReadableLaws.{readable-stray, readable-known}
 use borrow.Author.Needs.{needs}

@@ -5,7 +5,7 @@ use borrow.Author.Tests.{eq-eqb, ne-eqb}
 use denote.Ref.{now}
 use lib.ListN.{length, drop}
 use Rattle.endian.specs.Zero.{allZero}
-use Rattle.layout.specs.Layout.{recordSize, rowsAt, rowSize}
+use Rattle.record.specs.Layout.{recordSize, rowsAt, rowSize}
 use Rattle.readable.specs.Readable.{zeroAfterKind}
 use Rattle.readable.specs.ReadableLaws.{rows-of-kind-most}
 use borrow.Author.Needs.{needs}

@@ -3,10 +3,10 @@ use denote.Ref.{now}
 use mathlib.Core.Path.{sym, ap, _∙_}
 use mathlib.Core.Bool.{Bool, cond}
 use Rattle.item.specs.Tests.{refuted, granted}
-use Rattle.kinds.specs.Kind.{messageOf}
-use Rattle.kinds.specs.declared.Fields.{Fields}
+use Rattle.record.specs.Kind.{messageOf}
+use Rattle.record.specs.declared.kinds.Fields.{Fields}
 use Rattle.kinds_read.specs.Known.{isKnown}
-use Rattle.layout.specs.Layout.{nextOf}
+use Rattle.record.specs.Layout.{nextOf}
 use Rattle.readable.specs.ReadableLaws.{readable-stray, readable-known}
 use Rattle.numbers.specs.Numbers.{recordNumbers}
 use Rattle.record_numbers.specs.RecordLaws.{numbers-straight}

@@ -8,7 +8,7 @@ use mathlib.Core.Bool.{Bool, cond}
 use mathlib.Core.List.{[]}
 use Rattle.item.specs.Tests.{refuted, granted}
 use Rattle.numbers.specs.Numbers.{fieldsFrom}
-use Rattle.layout.specs.Layout.{recordSize}
+use Rattle.record.specs.Layout.{recordSize}
 use Rattle.numbers.specs.NumberLaws.{fits}
 use Rattle.numbers.specs.ReadBack.{stated-fits}
 use Rattle.record_numbers.specs.RecordLaws.{write-none, write-refused, write-stated}

@@ -4,7 +4,7 @@ use mathlib.Core.Path.{sym, ap, _∙_}
 use denote.Ref.{now}
 use Rattle.item.specs.Tests.{refuted, granted}
 use borrow.Author.Tests.{eq-eqb}
-use Rattle.kinds.specs.Kind.{messageOf}
+use Rattle.record.specs.Kind.{messageOf}
 use Rattle.record.specs.Record.{readRecord, readAs}
 use Rattle.record.specs.RecordLaws.{read-found}
 use Rattle.readable.specs.ReadableLaws.{zero-read, zero-long, read-stray}

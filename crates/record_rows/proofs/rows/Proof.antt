@@ -1,7 +1,7 @@
 -- `record_rows::rows` meets its contract: zero items past the end, else the rows of the part lent.
 use Rattle.endian.specs.Part.{part, whole}
 use Rattle.endian.specs.Number.{numberAt, value}
-use Rattle.layout.specs.Layout.{rowsOf, itemsIn, itemIn}
+use Rattle.record.specs.Layout.{rowsOf, itemsIn, itemIn}
 use native.Mathlib.Omega.{arith}
 use mathlib.Core.Path.{ap, _∙_}
 use denote.Ref.{now}

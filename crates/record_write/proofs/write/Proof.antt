@@ -6,9 +6,9 @@ use Rattle.endian.specs.Part.{withPart}
 use Rattle.record.specs.Layout.{recordSize, nextAt, recordOf}
 use mathlib.Core.List.{List}
 use Rattle.endian.specs.PartLaws.{with-all}
-use Rattle.layout.specs.LayoutLaws.{length-layout, length-padded}
-use Rattle.layout.specs.Layout.{layoutBytes, heldRows}
-use Rattle.kinds.specs.Kind.{fieldsOf, rowsHeld}
+use Rattle.record.specs.LayoutLaws.{length-layout, length-padded}
+use Rattle.record.specs.Layout.{layoutBytes, heldRows}
+use Rattle.record.specs.Kind.{fieldsOf, rowsHeld}
 use Rattle.record.specs.Record.{recordBytes}
 use Prim.Native.Nat.{ℕ, _+_, _-_, _*_, _≤_}
 use lib.ListN.{length, take}

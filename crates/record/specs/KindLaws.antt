@@ -4,7 +4,7 @@ use native.Mathlib.Omega.{arith}
 use Rattle.item.specs.Maxima.{maxNodes}
 use Rattle.message.specs.declared.Message.{Message}
 use Rattle.message.specs.declared.Message.the-variants.{Store, Stored, Confirm, Confirmed, Fetch, Table}
-use Rattle.kinds.specs.Kind.{rowsHeld}
+use Rattle.record.specs.Kind.{rowsHeld}
 
 pub rows-held-most : (m : Message) (n : ℕ) → rowsHeld m n ≤ maxNodes
 unfolding rowsHeld

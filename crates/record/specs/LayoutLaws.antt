@@ -14,9 +14,9 @@ use Rattle.endian.specs.Part.{withPart}
 use Rattle.endian.specs.PartLaws.{with-joined, sets-is}
 use Rattle.endian.specs.Number.{bytes, withNumber}
 use Rattle.endian.specs.NumberLaws.{length-bytes}
-use Rattle.kinds.specs.declared.Fields.{Fields}
+use Rattle.record.specs.declared.kinds.Fields.{Fields}
 pub use Rattle.message.specs.RowsLaws.{length-padded, getD-padded}
-use Rattle.layout.specs.Layout.{recordSize, nextAt, kindAt, addressAt, incarnationAt, otherAt, attemptAt, itemAt, rowsAt, indexSize, rowSize, fieldsSize, itemBytes, addressByte, fieldBytes, rowsBytes, padded, itemIn, itemsIn, layoutBytes}
+use Rattle.record.specs.Layout.{recordSize, nextAt, kindAt, addressAt, incarnationAt, otherAt, attemptAt, itemAt, rowsAt, indexSize, rowSize, fieldsSize, itemBytes, addressByte, fieldBytes, rowsBytes, padded, itemIn, itemsIn, layoutBytes}
 
 -- the length of an array of structs
 pub length-mapped : {X Y : Type 0} (f : X → Y) (l : List X) (n : ℕ) → length (map f l) ≡ n → length l ≡ n
