@@ -34,7 +34,7 @@ fn deliver_table(
 ) -> Acted
     ensures { λ a. ⌜ (a ≡ handedBack (carriedOut node (now (s .entry)) free sender (onTable node sender incarnation other (rowsOf (recordOf (now (s .entry)) r))))) × (now (s .exit) ≡ carriedOut node (now (s .entry)) free sender (onTable node sender incarnation other (rowsOf (recordOf (now (s .entry)) r))) .store) ⌝ }
 {
-    let items = record_rows::rows(s, r);
+    let items = record_read::rows(s, r);
     let step = on_table(node, sender, incarnation, other, items);
     carry_out(s, node, free, sender, step)
 }

@@ -5,7 +5,7 @@ ghost use mathlib.Core.Path.{_≡_};
 ghost use Rattle.store.specs.Sound.{messageAt};
 
 // The message in record `r`, or a fault where there is none. Of a sound store exactly the records on inbox chains have
-// one. Its rows are `record_rows::rows`.
+// one. Its rows are `record_read::items::rows`.
 pub fn message(s: &[u8], r: u64) -> Reading
     ensures { λ a. ⌜ a ≡ messageAt (now (s .entry)) r ⌝ }
 {

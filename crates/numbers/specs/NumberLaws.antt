@@ -27,9 +27,9 @@ use Rattle.record.specs.declared.kinds.Fields.{Fields}
 use Rattle.record.specs.declared.kinds.Known.the-variants as known
 use Rattle.message.specs.declared.Message as kind
 use Rattle.record.specs.Record.{envelopeOf}
-use Rattle.readable.specs.Readable.{rowsOfKind}
-use Rattle.readable.specs.ReadableLaws.{rows-read}
-use Rattle.kinds_read.specs.Known.{isKnown}
+use Rattle.record_read.specs.Readable.{rowsOfKind}
+use Rattle.record_read.specs.ReadableLaws.{rows-read}
+use Rattle.record_read.specs.Known.{isKnown}
 use Rattle.message.specs.declared.Envelope.{Envelope}
 use Rattle.record.specs.declared.kinds.Known.{Known}
 use Rattle.numbers.specs.declared.Stated.the-variants.{Message, Refused}

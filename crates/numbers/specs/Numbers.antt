@@ -15,7 +15,7 @@ use Rattle.record.specs.declared.kinds.Known.{Known}
 use Rattle.record.specs.declared.kinds.Known.the-variants as known
 use Rattle.record.specs.Layout.{nextOf, rowsOf}
 use Rattle.record.specs.Record.{envelopeOf, recordBytes, readRecord}
-unfoldable pub use Rattle.readable.specs.Readable.{isFound}
+unfoldable pub use Rattle.record_read.specs.Readable.{isFound}
 use Rattle.message.specs.declared.Reading.{Reading}
 use Rattle.message.specs.declared.Reading.the-variants.{Found, Fault}
 use Rattle.numbers.specs.declared.Stated.{Stated}

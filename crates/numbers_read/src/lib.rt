@@ -106,9 +106,9 @@ pub fn is_stated(numbers: &[u64], n: usize) -> bool
         return false;
     }
     let fields = fitting_fields(numbers);
-    let from = ROWS_FIRST + 2 * readable::rows_of_kind(fields.kind, n);
+    let from = ROWS_FIRST + 2 * record_read::rows_of_kind(fields.kind, n);
     if !zero_from(numbers, from) {
         return false;
     }
-    kinds_read::is_known(fields)
+    record_read::is_known(fields)
 }

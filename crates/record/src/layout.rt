@@ -1,5 +1,5 @@
 // The bytes of one record: where each field stands, with the definitions and their laws, and no code. They are read in the
-// crate `decoding` and written in `encoding`.
+// `record_read::fields` and written in `encoding`.
 use item::Tag;
 
 // The bytes of a record.

@@ -22,8 +22,8 @@ use Rattle.record.specs.Layout.{recordSize, recordOf, withRecord}
 use Rattle.record.specs.Record.{readRecord}
 use Rattle.record.specs.RecordLaws.{record-none, length-record-of, record-lent, record-back}
 use Rattle.message.specs.declared.Reading.{Reading}
-use Rattle.readable.specs.Readable.{readable}
-use Rattle.readable.specs.ReadableLaws.{holds}
+use Rattle.record_read.specs.Readable.{readable}
+use Rattle.record_read.specs.ReadableLaws.{holds}
 use Rattle.record_numbers.specs.Records.{mayRead, numbersRead, mayWrite, bytesWritten}
 
 length-numbers : (next : ℕ) (f : Fields) (rows : List Item) → length rows ≡ maxNodes → length (numbersOf next f rows) ≡ numberCount

@@ -10,7 +10,7 @@ use record::layout;
 ghost use mathlib.Core.Path.{_≡_};
 ghost use mathlib.Core.Bool.{cond};
 ghost use lib.ListN.{length};
-ghost use Rattle.readable.specs.Readable.{readable};
+ghost use Rattle.record_read.specs.Readable.{readable};
 ghost use Rattle.numbers.specs.Numbers.{numberCount, recordNumbers};
 ghost use Rattle.record_numbers.specs.Records.{bytesWritten, mayRead, mayWrite, numbersRead};
 
@@ -20,11 +20,11 @@ fn read_numbers(r: &[u8], n: usize, numbers: &mut [u64]) -> bool
     requires { ⌜ length (now numbers) ≡ numberCount ⌝ }
     ensures { λ b. ⌜ (b ≡ readable n (now (r .entry))) × (now (numbers .exit) ≡ cond (readable n (now (r .entry))) (recordNumbers n (now (r .entry))) (now (numbers .entry))) ⌝ }
 {
-    if !readable::zero_after_rows(r, n) {
+    if !record_read::zero_after_rows(r, n) {
         return false;
     }
-    let fields = decoding::read_fields(r);
-    if !kinds_read::is_known(fields) {
+    let fields = record_read::read_fields(r);
+    if !record_read::is_known(fields) {
         return false;
     }
     let next = endian::read_u16(r, layout::NEXT_AT) as u64;

@@ -1,10 +1,21 @@
 // The message of one record, read at any place of any slice. Everything is proved, the public function has no `requires`, and
 // it gives what one definition of the crate `record` says. A record that does not lie whole within the slice reads as
 // nothing, whatever number is handed in.
+pub mod endpoints;
+mod fields;
+mod items;
+mod kind;
+mod validity;
+
+pub use fields::read_fields;
+pub use items::rows;
+pub use kind::is_known;
 use message::Envelope;
 use message::Reading;
 use record::SIZE;
 use record::kinds::Known;
+pub use validity::rows_of_kind;
+pub use validity::zero_after_rows;
 ghost use mathlib.Core.Path.{_≡_};
 ghost use lib.ListN.{length};
 ghost use Rattle.record.specs.Layout.{recordSize, recordOf};
@@ -15,11 +26,11 @@ fn read_record(r: &[u8], n: usize) -> Reading
     requires { ⌜ length (now r) ≡ recordSize ⌝ }
     ensures { λ a. ⌜ a ≡ readRecord n (now (r .entry)) ⌝ }
 {
-    let fields = decoding::read_fields(r);
-    let Known::Known(message) = kinds_read::message_of(fields) else {
+    let fields = fields::read_fields(r);
+    let Known::Known(message) = kind::message_of(fields) else {
         return Reading::Fault;
     };
-    if !readable::zero_after_rows(r, n) {
+    if !validity::zero_after_rows(r, n) {
         return Reading::Fault;
     }
     let incarnation = fields.incarnation;

@@ -7,9 +7,9 @@ use lib.Dec.{eqb, ltb}
 use Rattle.record.specs.Record.{readRecord}
 use Rattle.message.specs.declared.Reading.{Reading}
 use Rattle.message.specs.declared.Reading.the-variants as reading
-use Rattle.record_ends.specs.Ends.{endsOf}
-use Rattle.record_ends.specs.declared.Ends.{Ends}
-use Rattle.record_ends.specs.declared.Ends.the-variants as ends
+use Rattle.record_read.specs.Ends.{endsOf}
+use Rattle.record_read.specs.declared.endpoints.Ends.{Ends}
+use Rattle.record_read.specs.declared.endpoints.Ends.the-variants as ends
 use Rattle.store.specs.Sound.{addressedTo, belongsTo}
 
 -- the tests of the ends

@@ -2,7 +2,8 @@
 // function has a `requires`, and each gives what one definition of the crate `store` says. In bytes that are not as long as
 // a store there is no chain. The marks of the records passed are lent: a copy of them would take longer than a short chain.
 use record::SIZE;
-use record_ends::Ends;
+use record_read::endpoints;
+use record_read::endpoints::Ends;
 use std::num::wrapping_add_usize;
 ghost use mathlib.Core.Path.{_≡_};
 ghost use Rattle.record.specs.Layout.{recordOf};
@@ -22,7 +23,7 @@ pub struct Followed {
 fn message_to(r: &[u8], n: usize, owner: usize) -> bool
     ensures { λ b. ⌜ b ≡ belongsTo n owner (now (r .entry)) ⌝ }
 {
-    let Ends::Found { sender, addressee } = record_ends::read(r, n) else {
+    let Ends::Found { sender, addressee } = endpoints::read(r, n) else {
         return false;
     };
     if n <= sender {

@@ -5,7 +5,7 @@ use denote.Ref.{now}
 use mathlib.Core.Path.{sym, _∙_}
 use Rattle.item.specs.Maxima.{maxNodes}
 use Rattle.item.specs.Tests.{refuted, granted}
-use Rattle.readable.specs.ReadableLaws.{rows-of-kind-most}
+use Rattle.record_read.specs.ReadableLaws.{rows-of-kind-most}
 use Rattle.numbers.specs.Numbers.{stated, isStated}
 use Rattle.numbers.specs.NumberLaws.{fit-is, stated-by}
 use borrow.Author.Needs.{needs}

@@ -5,9 +5,9 @@ use mathlib.Core.Bool.{Bool, cond}
 use Rattle.item.specs.Tests.{refuted, granted}
 use Rattle.record.specs.Kind.{messageOf}
 use Rattle.record.specs.declared.kinds.Fields.{Fields}
-use Rattle.kinds_read.specs.Known.{isKnown}
+use Rattle.record_read.specs.Known.{isKnown}
 use Rattle.record.specs.Layout.{nextOf}
-use Rattle.readable.specs.ReadableLaws.{readable-stray, readable-known}
+use Rattle.record_read.specs.ReadableLaws.{readable-stray, readable-known}
 use Rattle.numbers.specs.Numbers.{recordNumbers}
 use Rattle.record_numbers.specs.RecordLaws.{numbers-straight}
 use borrow.Author.Needs.{needs}

@@ -1,2 +1,0 @@
-pub mod Readable
-pub mod ReadableLaws

@@ -1,0 +1,4 @@
+pub mod Known
+pub mod Readable
+pub mod ReadableLaws
+pub mod Ends
