@@ -20,7 +20,6 @@ use item::Index;
 use item::Item;
 use item::Row;
 use item::Tag;
-use kinds_write::fields_of;
 use libc::STDOUT_FILENO;
 use message::Envelope;
 use node::with_row;
@@ -28,6 +27,7 @@ use protocol::Answer;
 use protocol::Node;
 use protocol::Sends;
 use protocol::Step;
+use record_write::fields_of;
 use sending::outgoing_to;
 use sending::row_items;
 

@@ -67,6 +67,6 @@ pub fn write_record(bytes: &mut [u8], record: u64, n: u64, numbers: &[u64]) -> b
     let fields = fields_in(numbers);
     let rows = rows_in(numbers);
     let a = i * SIZE;
-    encoding::write_record(&mut bytes[a..a + SIZE], next, fields, rows);
+    record_write::write_record(&mut bytes[a..a + SIZE], next, fields, rows);
     true
 }

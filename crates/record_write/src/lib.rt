@@ -1,6 +1,12 @@
 // The message of one record, written at any place of any slice. Everything is proved, the public function has no `requires`,
 // and it gives what one definition of the crate `record` says. A record that does not lie whole within the slice is not
 // written, whatever number is handed in.
+mod bytes;
+mod fields;
+mod rows;
+
+pub use bytes::write_record;
+pub use fields::fields_of;
 use item::Item;
 use message::Envelope;
 use record::SIZE;
@@ -25,7 +31,7 @@ pub fn write(
     }
     let a = i * SIZE;
     let message = envelope.message;
-    let held = held_rows::held_rows(message, n, rows);
-    let fields = kinds_write::fields_of(envelope);
-    encoding::write_record(&mut s[a..a + SIZE], next, fields, held);
+    let held = rows::held_rows(message, n, rows);
+    let fields = fields::fields_of(envelope);
+    bytes::write_record(&mut s[a..a + SIZE], next, fields, held);
 }
