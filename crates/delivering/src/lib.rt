@@ -43,7 +43,7 @@ fn deliver_table(
 fn deliver_message(s: &mut [u8], node: Node, free: usize, r: u64) -> Acted
     ensures { λ a. ⌜ (a ≡ handedBack (delivered (messageAt (now (s .entry)) r) node (now (s .entry)) free r)) × (now (s .exit) ≡ delivered (messageAt (now (s .entry)) r) node (now (s .entry)) free r .store) ⌝ }
 {
-    let Reading::Found(envelope) = inbox::message(s, r) else {
+    let Reading::Found(envelope) = store_access::message(s, r) else {
         return refused(Refusal::NoMessage, node);
     };
     let sender = envelope.sender;

@@ -2,6 +2,9 @@
 // leaves the bytes that one definition of the crate `store` says. Bytes that are not as long as a store stay as they are;
 // whatever a store's bytes are, every call ends and stays inside them.
 use std::num::wrapping_add_usize;
+use store_access::head;
+use store_access::links;
+use store_access::stride;
 ghost use mathlib.Core.Path.{_≡_};
 ghost use Prim.Native.Nat.{_*_};
 ghost use lib.ListN.{length};

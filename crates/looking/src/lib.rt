@@ -22,7 +22,7 @@ fn addressee(reading: Reading) -> usize
 fn addressee_at(s: &[u8], r: u64) -> usize
     ensures { λ a. ⌜ a ≡ addresseeOf (messageAt (now (s .entry)) r) ⌝ }
 {
-    let reading = inbox::message(s, r);
+    let reading = store_access::message(s, r);
     addressee(reading)
 }
 

@@ -16,7 +16,7 @@ ghost use Rattle.outcome.specs.Act.{dropped, acted};
 pub fn drop_message(s: &mut [u8], r: u64) -> Answer
     ensures { λ a. ⌜ ((node : Node) → (a ≡ dropped (messageAt (now (s .entry)) r) node (now (s .entry)) r .answer) × (now (s .exit) ≡ dropped (messageAt (now (s .entry)) r) node (now (s .entry)) r .store)) ⌝ }
 {
-    let Reading::Found(envelope) = inbox::message(s, r) else {
+    let Reading::Found(envelope) = store_access::message(s, r) else {
         return Answer::Refused(Refusal::NoMessage);
     };
     dropping::drop_message(s, envelope.addressee, r);

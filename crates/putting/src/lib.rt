@@ -4,6 +4,9 @@
 use item::Item;
 use message::Envelope;
 use std::num::wrapping_add_usize;
+use store_access::head;
+use store_access::links;
+use store_access::stride;
 ghost use mathlib.Core.Path.{_≡_};
 ghost use Prim.Native.Nat.{_*_};
 ghost use lib.ListN.{length};

@@ -1,6 +1,8 @@
 // A store over lent bytes set up: every record free. Everything is proved, the public function has no `requires`, and it
 // leaves the bytes that one definition of the crate `store` says. Bytes that are not as long as a store stay as they are.
 use endian::zeros;
+use store_access::head;
+use store_access::links;
 ghost use mathlib.Core.Path.{_≡_};
 ghost use Prim.Native.Nat.{_*_};
 ghost use lib.ListN.{length};

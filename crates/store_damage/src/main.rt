@@ -8,6 +8,7 @@ use item::Tag;
 use libc::STDOUT_FILENO;
 use message::Envelope;
 use message::Message;
+use store_access::links;
 
 // The group.
 const NODES: usize = 3;

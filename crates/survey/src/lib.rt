@@ -3,6 +3,7 @@
 // `store` says.
 use endian::zeros;
 use store::Survey;
+use store_access::head;
 use walk::Followed;
 ghost use mathlib.Core.Path.{_≡_};
 ghost use Prim.Native.Nat.{_*_};

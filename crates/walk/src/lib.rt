@@ -5,6 +5,8 @@ use record::SIZE;
 use record_read::endpoints;
 use record_read::endpoints::Ends;
 use std::num::wrapping_add_usize;
+use store_access::links;
+use store_access::stride;
 ghost use mathlib.Core.Path.{_≡_};
 ghost use Rattle.record.specs.Layout.{recordOf};
 ghost use Rattle.store.specs.Chain.{walked};
