@@ -71,7 +71,7 @@ pub fn dropping(event: Event) -> Dropping
 pub fn look(s: &[u8], event: Event) -> Seen
     ensures { λ r. ⌜ r ≡ lookAt event (now (s .entry)) ⌝ }
 {
-    let survey = survey::of(s);
+    let survey = store_check::of(s);
     let whose = place(s, event);
     Seen {
         sound: survey.sound,

@@ -43,7 +43,7 @@ fn survey(s: &[u8]) -> usize {
     let mut sound: usize = 0;
     let mut left = TURNS;
     while 0 < left {
-        let found = survey::of(s);
+        let found = store_check::of(s);
         if found.sound {
             sound = std::num::wrapping_add_usize(sound, 1);
         }

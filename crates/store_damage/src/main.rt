@@ -53,7 +53,7 @@ fn fill(s: &mut [u8]) {
 // The line of one store.
 fn print(s: &[u8], name: &[u8]) {
     io::write_all(STDOUT_FILENO, name);
-    let found = survey::of(s);
+    let found = store_check::of(s);
     if !found.sound {
         io::write_all(STDOUT_FILENO, b": unsound\n");
         return;

@@ -1,0 +1,3 @@
+pub mod Belonging
+pub mod Walking
+pub mod Passing
