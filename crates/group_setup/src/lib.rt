@@ -36,7 +36,7 @@ fn prepare(s: &mut [u8], n: usize, nodes: usize) -> Prepared
     if s.len() != store::LENGTH {
         return not_prepared(Refusal::StoreLength);
     }
-    setup::set_up(s, n);
+    store_change::set_up(s, n);
     Prepared {
         answer: Answer::Ok,
         fresh: n,

@@ -30,7 +30,7 @@ fn send_to(
     }
     let place = outgoing_to(node, sends, back, k);
     let envelope = place.envelope;
-    putting::put(s, envelope, items);
+    store_change::put(s, envelope, items);
 }
 
 // What the node sends, by rising number; a Table bears the items of its rows.

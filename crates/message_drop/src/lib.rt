@@ -19,7 +19,7 @@ pub fn drop_message(s: &mut [u8], r: u64) -> Answer
     let Reading::Found(envelope) = store_access::message(s, r) else {
         return Answer::Refused(Refusal::NoMessage);
     };
-    dropping::drop_message(s, envelope.addressee, r);
+    store_change::drop_message(s, envelope.addressee, r);
     Answer::Ok
 }
 

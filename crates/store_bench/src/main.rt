@@ -33,7 +33,7 @@ fn fill(s: &mut [u8], many: usize) {
                 },
             },
         };
-        putting::put(s, envelope, [Item::zero(); item::MAX_NODES]);
+        store_change::put(s, envelope, [Item::zero(); item::MAX_NODES]);
         left -= 1;
     }
 }
@@ -60,7 +60,7 @@ fn print(name: &[u8], sound: usize) {
 
 fn main() {
     let mut bytes = [0u8; store::LENGTH];
-    setup::set_up(&mut bytes, NODES);
+    store_change::set_up(&mut bytes, NODES);
     print(b"empty ", survey(&bytes));
     fill(&mut bytes, HALF);
     print(b"half full ", survey(&bytes));

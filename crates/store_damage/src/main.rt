@@ -34,7 +34,7 @@ fn put(s: &mut [u8], sender: usize, addressee: usize, message: Message) {
         incarnation: Incarnation(1),
         message: message,
     };
-    putting::put(s, envelope, [Item::zero(); item::MAX_NODES]);
+    store_change::put(s, envelope, [Item::zero(); item::MAX_NODES]);
 }
 
 // Inbox 1 has records 1 and 3, inbox 2 has record 2, inbox 0 is empty, and records 4 to 239 are free.
@@ -44,7 +44,7 @@ fn fill(s: &mut [u8]) {
         tag: Tag(65),
     };
     let attempt = Attempt(1);
-    setup::set_up(s, NODES);
+    store_change::set_up(s, NODES);
     put(s, 0, 1, Message::Store { attempt, item });
     put(s, 0, 2, Message::Fetch);
     put(s, 2, 1, Message::Fetch);
@@ -123,7 +123,7 @@ fn print_addresses(s: &mut [u8]) {
 fn main() {
     let mut bytes = [0u8; store::LENGTH];
     print(&bytes, b"zeros");
-    setup::set_up(&mut bytes, NODES);
+    store_change::set_up(&mut bytes, NODES);
     print(&bytes, b"set up");
     fill(&mut bytes);
     print(&bytes, b"with messages");
@@ -133,6 +133,6 @@ fn main() {
     print_unused(&mut bytes);
     print_addresses(&mut bytes);
     fill(&mut bytes);
-    dropping::drop_message(&mut bytes, 1, 1);
+    store_change::drop_message(&mut bytes, 1, 1);
     print(&bytes, b"one message dropped");
 }
