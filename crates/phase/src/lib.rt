@@ -1,7 +1,7 @@
-// The tests on a node's phase, by which every decision branches; with them those on its stage, from the crates `idle` and
-// `stage`. Everything is proved, no public function has a `requires`, and each gives what one definition of the crate
-// `protocol` says.
+// The tests on a node's phase and stage, by which every decision branches.
 mod down;
+mod idle;
+mod stage;
 mod up;
 
 pub use down::is_down;

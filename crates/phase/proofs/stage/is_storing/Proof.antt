@@ -1,8 +1,8 @@
--- `stage::is_storing` meets its contract: an arm for each phase; the stage is tested by the call.
+-- `phase::stage::is_storing` meets its contract: an arm for each phase; the stage is tested by the call.
 use Rattle.protocol.specs.Phase.{isStoring}
 use borrow.Author.Needs.{needs}
-use Rattle.stage.proofs.is_storing.Statement.{statement}
-use Rattle.stage.proofs.is_storing.Tie as tie
+use Rattle.phase.proofs.stage.is_storing.Statement.{statement}
+use Rattle.phase.proofs.stage.is_storing.Tie as tie
 
 enum-told : tie.Need-enum-told
 enum-told c = c .match .keys1

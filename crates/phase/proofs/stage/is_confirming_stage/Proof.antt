@@ -1,7 +1,7 @@
--- `stage::is_confirming_stage` meets its contract: an arm for each stage.
+-- `phase::stage::is_confirming_stage` meets its contract: an arm for each stage.
 use Rattle.protocol.specs.Phase.{isConfirmingStage}
-use Rattle.stage.proofs.is_confirming_stage.Statement.{statement}
-use Rattle.stage.proofs.is_confirming_stage.Tie as tie
+use Rattle.phase.proofs.stage.is_confirming_stage.Statement.{statement}
+use Rattle.phase.proofs.stage.is_confirming_stage.Tie as tie
 
 enum-told : tie.Need-enum-told
 enum-told c = c .match .keys1

@@ -1,7 +1,7 @@
--- `stage::at_stage` meets its contract: an arm for each phase.
+-- `phase::stage::at_stage` meets its contract: an arm for each phase.
 use Rattle.protocol.specs.Phase.{atStage}
-use Rattle.stage.proofs.at_stage.Statement.{statement}
-use Rattle.stage.proofs.at_stage.Tie as tie
+use Rattle.phase.proofs.stage.at_stage.Statement.{statement}
+use Rattle.phase.proofs.stage.at_stage.Tie as tie
 
 enum-told : tie.Need-enum-told
 enum-told c = c .match .keys1

@@ -1,8 +1,8 @@
--- `idle::is_up_idle` meets its contract: an arm for each phase; the stage is tested by the call.
+-- `phase::idle::is_up_idle` meets its contract: an arm for each phase; the stage is tested by the call.
 use Rattle.protocol.specs.Phase.{isUpIdle}
 use borrow.Author.Needs.{needs}
-use Rattle.idle.proofs.is_up_idle.Statement.{statement}
-use Rattle.idle.proofs.is_up_idle.Tie as tie
+use Rattle.phase.proofs.idle.is_up_idle.Statement.{statement}
+use Rattle.phase.proofs.idle.is_up_idle.Tie as tie
 
 enum-told : tie.Need-enum-told
 enum-told c = c .match .keys1
