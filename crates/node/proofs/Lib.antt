@@ -1,2 +1,3 @@
-pub mod Answered
 pub mod Array
+pub mod Count
+pub mod Answered

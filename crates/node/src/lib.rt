@@ -1,9 +1,9 @@
-// One node by value: its rows; with it what is read of its peers, from the crate `peers`, and each kind of change of it,
-// from the crates `change`, `stage_change` and `lifecycle`. Everything is proved, no public function has a `requires`, and
-// each gives what one definition of the crate `protocol` says. A number past the last row reads as zero.
-pub use change::with_counted;
-pub use change::with_row;
-pub use change::with_rows;
+// One node by value: its rows, its peers, its stage, and each kind of change of it. A number past the last row reads as zero.
+mod lifecycle;
+mod peers;
+mod rows;
+mod stage;
+
 use item::Item;
 use item::Row;
 pub use lifecycle::crashed;
@@ -14,9 +14,12 @@ pub use peers::half;
 pub use peers::is_counted;
 pub use peers::peer_of;
 use protocol::Node;
-pub use stage_change::confirming_begun;
-pub use stage_change::storing_begun;
-pub use stage_change::write_ended;
+pub use rows::with_counted;
+pub use rows::with_row;
+pub use rows::with_rows;
+pub use stage::confirming_begun;
+pub use stage::storing_begun;
+pub use stage::write_ended;
 ghost use mathlib.Core.Path.{_≡_};
 ghost use Rattle.protocol.specs.Node.{rowOf, ownItem};
 

@@ -5,7 +5,7 @@ use item::Attempt;
 use item::Incarnation;
 use item::Item;
 use item::Row;
-use peers::count_peers;
+use node::count_peers;
 use protocol::Node;
 use protocol::Peer;
 use protocol::Phase;
@@ -51,7 +51,7 @@ fn count_with(peers: [Peer; Node::MAX_ROWS], sender: usize) -> usize
     count_peers(counted)
 }
 
-// What the node is to this sender. Rows and peers are read here and not by `node::row_of` and `peers::peer_of`, which take
+// What the node is to this sender. Rows and peers are read here and not by `node::row_of` and `node::peers::peer_of`, which take
 // the whole node or a list by value: the compiler would copy it for each of them. Past the last row they read as there.
 pub fn view_of(node: Node, sender: usize) -> View
     ensures { λ r. ⌜ r ≡ viewOf node sender ⌝ }

@@ -1,5 +1,5 @@
 -- `node::row_of` meets its contract: past the last row the list of rows gives the zero row.
-use Rattle.change.proofs.Array.{length-mapped, getD-out}
+use Rattle.node.proofs.Array.{length-mapped, getD-out}
 use Rattle.item.specs.Row.{zeroRow}
 use Rattle.protocol.specs.Node.{rowOf}
 use native.Mathlib.Omega.{arith}

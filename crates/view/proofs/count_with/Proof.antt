@@ -1,5 +1,5 @@
 -- `view::count_with` meets its contract: past the last place the list stays as it was.
-use Rattle.change.proofs.Array.{length-mapped}
+use Rattle.node.proofs.Array.{length-mapped}
 use native.Mathlib.Omega.{arith}
 use lib.Seq.{set-out}
 use lib.ListN.{length}

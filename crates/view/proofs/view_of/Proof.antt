@@ -1,5 +1,5 @@
 -- `view::view_of` meets its contract: past the last row and the last peer the lists give the zero row and no peer.
-use Rattle.change.proofs.Array.{length-mapped, getD-out}
+use Rattle.node.proofs.Array.{length-mapped, getD-out}
 use Rattle.item.specs.Row.{zeroRow}
 use Rattle.protocol.specs.Node.{noPeer, rowOf, ownItem, peerOf}
 use Rattle.protocol.specs.Storing.{isCounted}
