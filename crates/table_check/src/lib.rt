@@ -12,7 +12,7 @@ ghost use Rattle.protocol.specs.Table.{soundTable};
 fn and_sound(ok: bool, node: Node, i: usize, n: usize) -> bool
     ensures { λ r. ⌜ r ≡ ok && soundNode n i node ⌝ }
 {
-    ok & soundness::node_sound(n, i, node)
+    ok & node_sound::node_sound(n, i, node)
 }
 
 // Whether the table has n nodes and each is sound at its place.
