@@ -7,12 +7,12 @@ use node::count_peers;
 use node::is_counted;
 use node::with_counted;
 use node::with_rows;
+use node_calls::refused;
 use phase::is_fetching;
 use protocol::Node;
 use protocol::Refusal;
 use protocol::Step;
 use recovering::table_counted;
-use step::refused;
 ghost use mathlib.Core.Path.{_≡_};
 ghost use Rattle.protocol.specs.Fetching.{noneCounted, withTable, onTable};
 
