@@ -1,17 +1,17 @@
 // A decision carried out: what it sends goes into the store. Everything is proved, no public function has a `requires`,
 // and each gives what one definition of the crate `outcome` says.
-use decision::Decision;
-use decision::changed;
 use outcome::Acted;
 use outcome::refused;
 use protocol::Answer;
 use protocol::Node;
 use protocol::Refusal;
 use protocol::Step;
+use sender_view::Decision;
+use sender_view::changed;
 use sending::count_sent;
 ghost use mathlib.Core.Path.{_≡_};
 ghost use Rattle.protocol.specs.Answer.{isRefused};
-ghost use Rattle.decision.specs.Decision.{stepBy};
+ghost use Rattle.sender_view.specs.Decision.{stepBy};
 ghost use Rattle.outcome.specs.Act.{handedBack, carriedOut};
 
 // Whether the answer is a refusal.

@@ -1,23 +1,23 @@
 // Delivery of Confirmed, decided by what is seen of the node: one that is Confirming counts it. The sender's incarnation is
 // the envelope's. Everything is proved, no public function has a `requires`, and a decision is, for every node that is
 // seen so, the step that one definition of the crate `protocol` says.
-use decision::Decision;
-use decision::refused;
 use item::Attempt;
 use item::Incarnation;
 use item::Item;
 use phase::is_confirming;
 use protocol::Peer;
 use protocol::Refusal;
+use sender_view::Decision;
+use sender_view::View;
+use sender_view::own_write;
+use sender_view::refused;
 use settling::confirmed_counted;
-use view::View;
-use view::own_write;
 ghost use Prim.Native.Nat.{ℕ};
 ghost use mathlib.Core.Bool.{_&&_};
 ghost use mathlib.Core.Path.{_≡_};
 ghost use Rattle.protocol.specs.declared.Node.{Node};
-ghost use Rattle.view.specs.View.{Sees};
-ghost use Rattle.decision.specs.Decision.{stepBy};
+ghost use Rattle.sender_view.specs.View.{Sees};
+ghost use Rattle.sender_view.specs.Decision.{stepBy};
 ghost use Rattle.item.specs.Counter.{sameIncarnation};
 ghost use Rattle.protocol.specs.Storing.{onConfirmed};
 

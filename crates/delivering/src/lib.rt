@@ -14,7 +14,7 @@ use outcome::refused;
 use protocol::Node;
 use protocol::Refusal;
 use protocol::Verdict;
-use view::view_of;
+use sender_view::view_of;
 ghost use mathlib.Core.Path.{_≡_};
 ghost use Rattle.record.specs.Layout.{recordOf, rowsOf};
 ghost use Rattle.store.specs.Sound.{messageAt};

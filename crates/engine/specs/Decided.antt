@@ -6,7 +6,7 @@ use Rattle.item.specs.declared.Item.{Item}
 use Rattle.protocol.specs.Fetching.{onTable}
 use Rattle.protocol.specs.declared.Node.{Node}
 use Rattle.protocol.specs.declared.Step.{Step}
-use Rattle.decision.specs.Decision.{stepBy}
+use Rattle.sender_view.specs.Decision.{stepBy}
 use Rattle.engine.specs.declared.Decided.{Decided}
 use Rattle.engine.specs.declared.Decided.the-variants.{Seen, Table}
 

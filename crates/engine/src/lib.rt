@@ -2,8 +2,6 @@
 // by what is seen of the node, so that a decision moves no rows; a Table by the whole node. Everything is proved, no public
 // function has a `requires`, and each gives what one definition of protocol's specs/ says.
 use confirming::on_confirmed;
-use decision::Decision;
-use decision::step_of;
 pub use fetching::on_table;
 use item::Incarnation;
 use item::Item;
@@ -19,16 +17,18 @@ use protocol::Step;
 use reply_confirm::on_confirm;
 use reply_fetch::on_fetch;
 use reply_store::on_store;
+use sender_view::Decision;
+use sender_view::View;
+use sender_view::step_of;
+use sender_view::view_of;
 use storing::on_stored;
-use view::View;
-use view::view_of;
 ghost use Prim.Native.Nat.{ℕ};
 ghost use mathlib.Core.List.{List};
 ghost use mathlib.Core.Path.{_≡_};
 ghost use Rattle.item.specs.declared.Item.{Item};
 ghost use Rattle.protocol.specs.Deliver.{onMessage, deliverStep};
 ghost use Rattle.protocol.specs.declared.Node.{Node};
-ghost use Rattle.view.specs.View.{Sees};
+ghost use Rattle.sender_view.specs.View.{Sees};
 ghost use Rattle.engine.specs.Decided.{decidedStep};
 
 // What is decided of a message: a decision by what is seen of the node, or that it is a Table with this other incarnation,

@@ -1,10 +1,6 @@
 // Delivery of Confirm, decided by what is seen of the node: one that is Up answers Confirmed if its row is as the message
 // says. The sender's incarnation is the envelope's. Everything is proved, no public function has a `requires`, and a
 // decision is, for every node that is seen so, the step that one definition of the crate `protocol` says.
-use decision::Change;
-use decision::Decision;
-use decision::ok;
-use decision::refused;
 use item::Attempt;
 use item::Incarnation;
 use item::Item;
@@ -13,12 +9,16 @@ use message::Message;
 use phase::is_up;
 use protocol::Refusal;
 use protocol::Sends;
-use view::View;
+use sender_view::Change;
+use sender_view::Decision;
+use sender_view::View;
+use sender_view::ok;
+use sender_view::refused;
 ghost use Prim.Native.Nat.{ℕ};
 ghost use mathlib.Core.Path.{_≡_};
 ghost use Rattle.protocol.specs.declared.Node.{Node};
-ghost use Rattle.view.specs.View.{Sees};
-ghost use Rattle.decision.specs.Decision.{stepBy};
+ghost use Rattle.sender_view.specs.View.{Sees};
+ghost use Rattle.sender_view.specs.Decision.{stepBy};
 ghost use Rattle.protocol.specs.Storing.{storedUnder, onConfirm};
 
 // Whether the row has this item, stored under these counters.

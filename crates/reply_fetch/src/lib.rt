@@ -1,21 +1,21 @@
 // Delivery of Fetch, decided by what is seen of the node: one that is Up answers with its rows in a Table. Everything is
 // proved, no public function has a `requires`, and a decision is, for every node that is seen so, the step that one
 // definition of protocol's specs/Fetching says.
-use decision::Change;
-use decision::Decision;
-use decision::ok;
-use decision::refused;
 use item::Incarnation;
 use message::Message;
 use phase::is_up;
 use protocol::Refusal;
 use protocol::Sends;
-use view::View;
+use sender_view::Change;
+use sender_view::Decision;
+use sender_view::View;
+use sender_view::ok;
+use sender_view::refused;
 ghost use Prim.Native.Nat.{ℕ};
 ghost use mathlib.Core.Path.{_≡_};
 ghost use Rattle.protocol.specs.declared.Node.{Node};
-ghost use Rattle.view.specs.View.{Sees};
-ghost use Rattle.decision.specs.Decision.{stepBy};
+ghost use Rattle.sender_view.specs.View.{Sees};
+ghost use Rattle.sender_view.specs.Decision.{stepBy};
 ghost use Rattle.protocol.specs.Fetching.{onFetch};
 
 // Fetch: refused with 9 unless the node is Up; otherwise its rows go back in a Table.

@@ -1,10 +1,6 @@
 // Delivery of Store, decided by what is seen of the node: one that is Up stores it and answers Stored. The incarnation is
 // the envelope's. Everything is proved, no public function has a `requires`, and a decision is, for every node that is
 // seen so, the step that one definition of the crate `protocol` says.
-use decision::Change;
-use decision::Decision;
-use decision::ok;
-use decision::refused;
 use item::Attempt;
 use item::Incarnation;
 use item::Item;
@@ -15,12 +11,16 @@ use phase::is_up;
 use protocol::Refusal;
 use protocol::Sends;
 use protocol::Verdict;
-use view::View;
+use sender_view::Change;
+use sender_view::Decision;
+use sender_view::View;
+use sender_view::ok;
+use sender_view::refused;
 ghost use Prim.Native.Nat.{ℕ};
 ghost use mathlib.Core.Path.{_≡_};
 ghost use Rattle.protocol.specs.declared.Node.{Node};
-ghost use Rattle.view.specs.View.{Sees};
-ghost use Rattle.decision.specs.Decision.{stepBy};
+ghost use Rattle.sender_view.specs.View.{Sees};
+ghost use Rattle.sender_view.specs.Decision.{stepBy};
 ghost use Rattle.protocol.specs.Storing.{storeVerdict, replyStore, onStore};
 
 // What the row says to an item stored under these counters (refusals 12, 13, 10).

@@ -1,9 +1,6 @@
 // What a node that counts one more Confirmed does: at f of them its write has ended, and is settled, or accepted where the
 // node was Returning. Everything is proved, no public function has a `requires`, and a decision is, for every node that is
 // seen so, the step that one definition of the crate `protocol` says.
-use decision::Change;
-use decision::Decision;
-use decision::ok;
 use item::Incarnation;
 use item::Item;
 use node::half;
@@ -11,12 +8,15 @@ use phase::is_returning;
 use protocol::Answer;
 use protocol::Phase;
 use protocol::Sends;
-use view::View;
+use sender_view::Change;
+use sender_view::Decision;
+use sender_view::View;
+use sender_view::ok;
 ghost use Prim.Native.Nat.{ℕ};
 ghost use mathlib.Core.Path.{_≡_};
 ghost use Rattle.protocol.specs.declared.Node.{Node};
-ghost use Rattle.view.specs.View.{Sees};
-ghost use Rattle.decision.specs.Decision.{endedWith, stepBy};
+ghost use Rattle.sender_view.specs.View.{Sees};
+ghost use Rattle.sender_view.specs.Decision.{endedWith, stepBy};
 ghost use Rattle.protocol.specs.Node.{withCounted};
 ghost use Rattle.protocol.specs.Storing.{endAnswer, confirmedCounted};
 

@@ -1,10 +1,6 @@
 // Delivery of Stored, decided by what is seen of the node: at f of them a node that is Storing asks these f to confirm. The
 // sender's incarnation is the envelope's. Everything is proved, no public function has a `requires`, and a decision is,
 // for every node that is seen so, the step that one definition of the crate `protocol` says.
-use decision::Change;
-use decision::Decision;
-use decision::ok;
-use decision::refused;
 use item::Attempt;
 use item::Incarnation;
 use item::Item;
@@ -12,13 +8,17 @@ use node::half;
 use phase::is_storing;
 use protocol::Refusal;
 use protocol::Sends;
-use view::View;
-use view::own_write;
+use sender_view::Change;
+use sender_view::Decision;
+use sender_view::View;
+use sender_view::ok;
+use sender_view::own_write;
+use sender_view::refused;
 ghost use Prim.Native.Nat.{ℕ};
 ghost use mathlib.Core.Path.{_≡_};
 ghost use Rattle.protocol.specs.declared.Node.{Node};
-ghost use Rattle.view.specs.View.{Sees};
-ghost use Rattle.decision.specs.Decision.{stepBy};
+ghost use Rattle.sender_view.specs.View.{Sees};
+ghost use Rattle.sender_view.specs.Decision.{stepBy};
 ghost use Rattle.protocol.specs.Node.{withCounted};
 ghost use Rattle.protocol.specs.Storing.{storedCounted, onStored};
 

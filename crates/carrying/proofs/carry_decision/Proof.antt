@@ -1,7 +1,7 @@
 -- `carrying::carry_decision` meets its contract.
 use Rattle.outcome.proofs.Laws.{carried-refused, carried-full, carried-sent}
 use Rattle.node.proofs.Answered.{answered}
-use Rattle.decision.specs.Decision.{stepBy}
+use Rattle.sender_view.specs.Decision.{stepBy}
 use Rattle.protocol.specs.declared.Node.{Node}
 use native.Mathlib.Omega.{arith}
 use Rattle.outcome.specs.Act.{Outcome, handedBack}

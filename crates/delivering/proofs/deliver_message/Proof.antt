@@ -4,7 +4,7 @@ use Rattle.outcome.specs.Act.{Outcome, handedBack}
 use Rattle.record.specs.Layout.{recordOf, rowsOf}
 use Rattle.protocol.specs.Deliver.{deliverStep}
 use Rattle.protocol.specs.Fetching.{onTable}
-use Rattle.decision.specs.Decision.{stepBy}
+use Rattle.sender_view.specs.Decision.{stepBy}
 use Rattle.engine.specs.Decided.{decidedStep}
 use denote.Ref.{now}
 use mathlib.Core.Path.{refl, sym, ap, _∙_}

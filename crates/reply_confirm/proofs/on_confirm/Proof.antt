@@ -1,9 +1,9 @@
 -- `reply_confirm::on_confirm` meets its contract: a refusal for each test, and Confirmed back.
 use Rattle.item.specs.Tests.{refuted, granted}
-use Rattle.decision.specs.Decision.{changed, stepBy}
+use Rattle.sender_view.specs.Decision.{changed, stepBy}
 use Rattle.protocol.specs.Answer.{ok, refused}
 use Rattle.protocol.specs.Storing.{onConfirm}
-use Rattle.view.proofs.Seen.{phase-seen, incarnation-seen, row-seen}
+use Rattle.sender_view.proofs.Seen.{phase-seen, incarnation-seen, row-seen}
 use Rattle.reply_confirm.proofs.on_confirm.Statement.{statement}
 use Rattle.reply_confirm.proofs.on_confirm.Tie as tie
 

@@ -1,9 +1,9 @@
 -- `reply_fetch::on_fetch` meets its contract: a refusal where the node is not Up, and Table back.
 use Rattle.item.specs.Tests.{refuted, granted}
-use Rattle.decision.specs.Decision.{changed, stepBy}
+use Rattle.sender_view.specs.Decision.{changed, stepBy}
 use Rattle.protocol.specs.Answer.{ok, refused}
 use Rattle.protocol.specs.Fetching.{onFetch}
-use Rattle.view.proofs.Seen.{phase-seen}
+use Rattle.sender_view.proofs.Seen.{phase-seen}
 use Rattle.reply_fetch.proofs.on_fetch.Statement.{statement}
 use Rattle.reply_fetch.proofs.on_fetch.Tie as tie
 

@@ -1,5 +1,5 @@
 -- `reply_store::reply_store` meets its contract: an arm for each verdict.
-use Rattle.decision.specs.Decision.{changed, stepBy}
+use Rattle.sender_view.specs.Decision.{changed, stepBy}
 use Rattle.protocol.specs.Answer.{ok, refused}
 use Rattle.protocol.specs.Storing.{replyStore}
 use borrow.Author.Needs.{needs}

@@ -1,10 +1,10 @@
 -- `storing::on_stored` meets its contract: a refusal for each test, and the sender counted.
 use Rattle.item.specs.Tests.{refuted, granted}
 use Rattle.node.proofs.Answered.{answered}
-use Rattle.decision.specs.Decision.{changed, stepBy}
+use Rattle.sender_view.specs.Decision.{changed, stepBy}
 use Rattle.protocol.specs.Answer.{refused}
 use Rattle.protocol.specs.Storing.{onStored}
-use Rattle.view.proofs.Seen.{phase-seen, counted-seen}
+use Rattle.sender_view.proofs.Seen.{phase-seen, counted-seen}
 use Rattle.storing.proofs.on_stored.Statement.{statement}
 use Rattle.storing.proofs.on_stored.Tie as tie
 

@@ -1,0 +1,101 @@
+// What the delivery of a message without rows looks at of its node: a few fields by value in place of the whole node, so
+// that a decision moves no rows. Everything is proved, no public function has a `requires`, and each gives what one
+// definition says: of specs/, or of the crate `protocol` for every node that is seen so.
+use item::Attempt;
+use item::Incarnation;
+use item::Item;
+use item::Row;
+use node::count_peers;
+use protocol::Node;
+use protocol::Peer;
+use protocol::Phase;
+ghost use Prim.Native.Nat.{ℕ};
+ghost use mathlib.Core.Path.{_≡_};
+ghost use lib.ListN.{set};
+ghost use Rattle.protocol.specs.Node.{countPeers};
+ghost use Rattle.protocol.specs.Storing.{ownWrite};
+ghost use Rattle.protocol.specs.declared.Node.{Node};
+ghost use Rattle.sender_view.specs.View.{somePeer, viewOf, Sees};
+
+// What a node is to one sender.
+pub struct View {
+    // How many nodes the group has.
+    pub n: usize,
+    pub incarnation: Incarnation,
+    pub attempt: Attempt,
+    pub phase: Phase,
+    // The item in the node's own row.
+    pub own: Item,
+    // The sender's row.
+    pub row: Row,
+    // Whether the sender is counted.
+    pub counted: bool,
+    // What is noted of the sender among those asked.
+    pub asked: Peer,
+    // How many are counted with the sender.
+    pub count: usize,
+}
+
+// How many are counted with the sender.
+fn count_with(peers: [Peer; Node::MAX_ROWS], sender: usize) -> usize
+    ensures { λ r. ⌜ r ≡ countPeers (set peers sender somePeer) ⌝ }
+{
+    if Node::MAX_ROWS <= sender {
+        return count_peers(peers);
+    }
+    let mut counted = peers;
+    counted[sender] = Peer {
+        present: true,
+        incarnation: Incarnation(0),
+    };
+    count_peers(counted)
+}
+
+// What the node is to this sender. Rows and peers are read here and not by `node::row_of` and `node::peers::peer_of`, which take
+// the whole node or a list by value: the compiler would copy it for each of them. Past the last row they read as there.
+pub fn view_of(node: Node, sender: usize) -> View
+    ensures { λ r. ⌜ r ≡ viewOf node sender ⌝ }
+{
+    let number = node.number;
+    let incarnation = node.incarnation;
+    let attempt = node.attempt;
+    let phase = node.phase;
+    let mut own = Row::zero();
+    if number < Node::MAX_ROWS {
+        own = node.rows[number];
+    }
+    let mut row = Row::zero();
+    let mut counted = Peer::none();
+    let mut asked = Peer::none();
+    if sender < Node::MAX_ROWS {
+        row = node.rows[sender];
+        counted = node.counted[sender];
+        asked = node.asked[sender];
+    }
+    let item = own.item;
+    let peers = node.counted;
+    View {
+        n: node.n,
+        incarnation: incarnation,
+        attempt: attempt,
+        phase: phase,
+        own: item,
+        row: row,
+        counted: counted.present,
+        asked: asked,
+        count: count_with(peers, sender),
+    }
+}
+
+// Whether other incarnation, attempt and item are the node's own present ones.
+pub fn own_write(view: View, other: Incarnation, attempt: Attempt, item: Item) -> bool
+    ensures { λ r. ⌜ ((node : Node) (sender : ℕ) → Sees view node sender → r ≡ ownWrite node other attempt item) ⌝ }
+{
+    if !other.same(view.incarnation) {
+        return false;
+    }
+    if !attempt.same(view.attempt) {
+        return false;
+    }
+    item.same(view.own)
+}
