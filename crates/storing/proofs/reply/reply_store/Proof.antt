@@ -1,10 +1,10 @@
--- `reply_store::reply_store` meets its contract: an arm for each verdict.
+-- `storing::reply::reply_store` meets its contract: an arm for each verdict.
 use Rattle.sender_view.specs.Decision.{changed, stepBy}
 use Rattle.protocol.specs.Answer.{ok, refused}
 use Rattle.protocol.specs.Storing.{replyStore}
 use borrow.Author.Needs.{needs}
-use Rattle.reply_store.proofs.reply_store.Statement.{statement}
-use Rattle.reply_store.proofs.reply_store.Tie as tie
+use Rattle.storing.proofs.reply.reply_store.Statement.{statement}
+use Rattle.storing.proofs.reply.reply_store.Tie as tie
 
 enum-known-verdict : tie.Need-enum-known-verdict
 enum-known-verdict c = search needs

@@ -1,12 +1,12 @@
--- `storing::stored_counted` meets its contract: the count is held to f.
+-- `storing::count::stored_counted` meets its contract: the count is held to f.
 use borrow.Author.Tests.{lt-ltb, le-ltb}
 use Rattle.sender_view.specs.Decision.{changed, stepBy}
 use Rattle.protocol.specs.Answer.{ok}
 use Rattle.protocol.specs.Node.{rowOf, ownItem, withCounted, confirmingBegun}
 use Rattle.protocol.specs.Storing.{sendConfirm, storedCounted}
 use Rattle.sender_view.proofs.Seen.{attempt-seen, own-seen, below-half-seen}
-use Rattle.storing.proofs.stored_counted.Statement.{statement}
-use Rattle.storing.proofs.stored_counted.Tie as tie
+use Rattle.storing.proofs.count.stored_counted.Statement.{statement}
+use Rattle.storing.proofs.count.stored_counted.Tie as tie
 
 half-requires : tie.Need-half-requires
 half-requires c κs = tt

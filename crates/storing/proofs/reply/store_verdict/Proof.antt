@@ -1,9 +1,9 @@
--- `reply_store::store_verdict` meets its contract: the tests of the definition, in its order.
+-- `storing::reply::store_verdict` meets its contract: the tests of the definition, in its order.
 use Rattle.item.specs.Tests.{refuted, granted}
 use Rattle.node.proofs.Answered.{answered}
 use Rattle.protocol.specs.Storing.{storeVerdict}
-use Rattle.reply_store.proofs.store_verdict.Statement.{statement}
-use Rattle.reply_store.proofs.store_verdict.Tie as tie
+use Rattle.storing.proofs.reply.store_verdict.Statement.{statement}
+use Rattle.storing.proofs.reply.store_verdict.Tie as tie
 
 ranks-below-requires : tie.Need-ranks-below-requires
 ranks-below-requires c κs = tt

@@ -1,11 +1,11 @@
--- `reply_store::on_store` meets its contract: a refusal where the node is not Up, and the reply by the verdict of the sender's row.
+-- `storing::reply::on_store` meets its contract: a refusal where the node is not Up, and the reply by the verdict of the sender's row.
 use Rattle.item.specs.Tests.{refuted, granted}
 use Rattle.sender_view.specs.Decision.{changed, stepBy}
 use Rattle.protocol.specs.Answer.{refused}
 use Rattle.protocol.specs.Storing.{onStore}
 use Rattle.sender_view.proofs.Seen.{phase-seen, row-seen}
-use Rattle.reply_store.proofs.on_store.Statement.{statement}
-use Rattle.reply_store.proofs.on_store.Tie as tie
+use Rattle.storing.proofs.reply.on_store.Statement.{statement}
+use Rattle.storing.proofs.reply.on_store.Tie as tie
 
 is-up-requires : tie.Need-is-up-requires
 is-up-requires c κs = tt

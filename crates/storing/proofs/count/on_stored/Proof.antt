@@ -1,12 +1,12 @@
--- `storing::on_stored` meets its contract: a refusal for each test, and the sender counted.
+-- `storing::count::on_stored` meets its contract: a refusal for each test, and the sender counted.
 use Rattle.item.specs.Tests.{refuted, granted}
 use Rattle.node.proofs.Answered.{answered}
 use Rattle.sender_view.specs.Decision.{changed, stepBy}
 use Rattle.protocol.specs.Answer.{refused}
 use Rattle.protocol.specs.Storing.{onStored}
 use Rattle.sender_view.proofs.Seen.{phase-seen, counted-seen}
-use Rattle.storing.proofs.on_stored.Statement.{statement}
-use Rattle.storing.proofs.on_stored.Tie as tie
+use Rattle.storing.proofs.count.on_stored.Statement.{statement}
+use Rattle.storing.proofs.count.on_stored.Tie as tie
 
 is-storing-requires : tie.Need-is-storing-requires
 is-storing-requires c κs = tt
