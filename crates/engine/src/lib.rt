@@ -1,6 +1,7 @@
 // The engine over one node by value: every event, and a message delivered by its kind. A message without rows is decided
 // by what is seen of the node, so that a decision moves no rows; a Table by the whole node. Everything is proved, no public
 // function has a `requires`, and each gives what one definition of protocol's specs/ says.
+use confirming::on_confirm;
 use confirming::on_confirmed;
 pub use fetching::on_table;
 use item::Incarnation;
@@ -14,7 +15,6 @@ pub use node_calls::start;
 pub use node_calls::write;
 use protocol::Node;
 use protocol::Step;
-use reply_confirm::on_confirm;
 use reply_fetch::on_fetch;
 use sender_view::Decision;
 use sender_view::View;

@@ -1,12 +1,12 @@
--- `confirming::on_confirmed` meets its contract: a refusal for each test, and the sender counted.
+-- `confirming::count::on_confirmed` meets its contract: a refusal for each test, and the sender counted.
 use Rattle.item.specs.Tests.{refuted, granted}
 use Rattle.node.proofs.Answered.{answered}
 use Rattle.sender_view.specs.Decision.{changed, stepBy}
 use Rattle.protocol.specs.Answer.{refused}
 use Rattle.protocol.specs.Storing.{askedUnder, onConfirmed}
 use Rattle.sender_view.proofs.Seen.{phase-seen, counted-seen, asked-seen}
-use Rattle.confirming.proofs.on_confirmed.Statement.{statement}
-use Rattle.confirming.proofs.on_confirmed.Tie as tie
+use Rattle.confirming.proofs.count.on_confirmed.Statement.{statement}
+use Rattle.confirming.proofs.count.on_confirmed.Tie as tie
 
 is-confirming-requires : tie.Need-is-confirming-requires
 is-confirming-requires c κs = tt

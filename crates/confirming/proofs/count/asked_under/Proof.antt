@@ -1,7 +1,7 @@
--- `confirming::asked_under` meets its contract: a peer that is absent, or held to the incarnation.
+-- `confirming::count::asked_under` meets its contract: a peer that is absent, or held to the incarnation.
 use borrow.Author.Tests.{not-true, not-false}
-use Rattle.confirming.proofs.asked_under.Statement.{statement}
-use Rattle.confirming.proofs.asked_under.Tie as tie
+use Rattle.confirming.proofs.count.asked_under.Statement.{statement}
+use Rattle.confirming.proofs.count.asked_under.Tie as tie
 
 returns : tie.Need-returns
 returns c = rw (not-true (c .before .before .args .peer .present) (c .if1 .taken))

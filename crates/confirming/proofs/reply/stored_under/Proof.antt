@@ -1,8 +1,8 @@
--- `reply_confirm::stored_under` meets its contract: an early return for each part that differs.
+-- `confirming::reply::stored_under` meets its contract: an early return for each part that differs.
 use Rattle.item.specs.Tests.{refuted, granted}
 use Rattle.protocol.specs.Storing.{storedUnder}
-use Rattle.reply_confirm.proofs.stored_under.Statement.{statement}
-use Rattle.reply_confirm.proofs.stored_under.Tie as tie
+use Rattle.confirming.proofs.reply.stored_under.Statement.{statement}
+use Rattle.confirming.proofs.reply.stored_under.Tie as tie
 
 same-requires : tie.Need-same-requires
 same-requires c κs = tt

@@ -1,8 +1,8 @@
--- `settling::end_answer` meets its contract: one test.
+-- `confirming::settle::end_answer` meets its contract: one test.
 use Rattle.node.proofs.Answered.{answered}
 use Rattle.protocol.specs.Storing.{endAnswer}
-use Rattle.settling.proofs.end_answer.Statement.{statement}
-use Rattle.settling.proofs.end_answer.Tie as tie
+use Rattle.confirming.proofs.settle.end_answer.Statement.{statement}
+use Rattle.confirming.proofs.settle.end_answer.Tie as tie
 
 is-returning-requires : tie.Need-is-returning-requires
 is-returning-requires c κs = tt

@@ -1,6 +1,6 @@
--- `settling::store_success` meets its contract.
-use Rattle.settling.proofs.store_success.Statement.{statement}
-use Rattle.settling.proofs.store_success.Tie as tie
+-- `confirming::settle::store_success` meets its contract.
+use Rattle.confirming.proofs.settle.store_success.Statement.{statement}
+use Rattle.confirming.proofs.settle.store_success.Tie as tie
 
 end-answer-requires : tie.Need-end-answer-requires
 end-answer-requires c κs = tt

@@ -1,11 +1,11 @@
--- `reply_confirm::on_confirm` meets its contract: a refusal for each test, and Confirmed back.
+-- `confirming::reply::on_confirm` meets its contract: a refusal for each test, and Confirmed back.
 use Rattle.item.specs.Tests.{refuted, granted}
 use Rattle.sender_view.specs.Decision.{changed, stepBy}
 use Rattle.protocol.specs.Answer.{ok, refused}
 use Rattle.protocol.specs.Storing.{onConfirm}
 use Rattle.sender_view.proofs.Seen.{phase-seen, incarnation-seen, row-seen}
-use Rattle.reply_confirm.proofs.on_confirm.Statement.{statement}
-use Rattle.reply_confirm.proofs.on_confirm.Tie as tie
+use Rattle.confirming.proofs.reply.on_confirm.Statement.{statement}
+use Rattle.confirming.proofs.reply.on_confirm.Tie as tie
 
 is-up-requires : tie.Need-is-up-requires
 is-up-requires c κs = tt

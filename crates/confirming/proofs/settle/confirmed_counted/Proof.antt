@@ -1,12 +1,12 @@
--- `settling::confirmed_counted` meets its contract: the count is held to f.
+-- `confirming::settle::confirmed_counted` meets its contract: the count is held to f.
 use borrow.Author.Tests.{lt-ltb, le-ltb}
 use Rattle.sender_view.specs.Decision.{changed, stepBy}
 use Rattle.protocol.specs.Answer.{ok}
 use Rattle.protocol.specs.Node.{rowOf, ownItem, withCounted, writeEnded}
 use Rattle.protocol.specs.Storing.{storeSuccess, confirmedCounted}
 use Rattle.sender_view.proofs.Seen.{phase-seen, own-seen, below-half-seen}
-use Rattle.settling.proofs.confirmed_counted.Statement.{statement}
-use Rattle.settling.proofs.confirmed_counted.Tie as tie
+use Rattle.confirming.proofs.settle.confirmed_counted.Statement.{statement}
+use Rattle.confirming.proofs.settle.confirmed_counted.Tie as tie
 
 half-requires : tie.Need-half-requires
 half-requires c κs = tt
