@@ -3,6 +3,7 @@
 // function has a `requires`, and each gives what one definition of protocol's specs/ says.
 use confirming::on_confirm;
 use confirming::on_confirmed;
+use fetching::on_fetch;
 pub use fetching::on_table;
 use item::Incarnation;
 use item::Item;
@@ -15,7 +16,6 @@ pub use node_calls::start;
 pub use node_calls::write;
 use protocol::Node;
 use protocol::Step;
-use reply_fetch::on_fetch;
 use sender_view::Decision;
 use sender_view::View;
 use sender_view::step_of;
