@@ -1,5 +1,6 @@
 // A decision carried out: what it sends goes into the store. Everything is proved, no public function has a `requires`,
 // and each gives what one definition of the crate `outcome` says.
+use outbox::count_sent;
 use outcome::Acted;
 use outcome::refused;
 use protocol::Answer;
@@ -8,7 +9,6 @@ use protocol::Refusal;
 use protocol::Step;
 use sender_view::Decision;
 use sender_view::changed;
-use sending::count_sent;
 ghost use mathlib.Core.Path.{_≡_};
 ghost use Rattle.protocol.specs.Answer.{isRefused};
 ghost use Rattle.sender_view.specs.Decision.{stepBy};
@@ -44,7 +44,7 @@ pub fn carry_out(s: &mut [u8], node: Node, free: usize, back: usize, step: Step)
     if free < count_sent(next, sends, back) {
         return refused(Refusal::NoRoom, node);
     }
-    mail::send_each(s, next, sends, back);
+    outbox::send_each(s, next, sends, back);
     Acted {
         answer: answer,
         node: next,
@@ -74,7 +74,7 @@ pub fn carry_decision(
     if free < count_sent(after, sends, sender) {
         return refused(Refusal::NoRoom, node);
     }
-    mail::send_each(s, after, sends, sender);
+    outbox::send_each(s, after, sends, sender);
     Acted {
         answer: answer,
         node: after,

@@ -23,13 +23,13 @@ use item::Tag;
 use libc::STDOUT_FILENO;
 use message::Envelope;
 use node::with_row;
+use outbox::outgoing_to;
+use outbox::row_items;
 use protocol::Answer;
 use protocol::Node;
 use protocol::Sends;
 use protocol::Step;
 use record_write::fields_of;
-use sending::outgoing_to;
-use sending::row_items;
 
 // The nodes of the group.
 const NODES: usize = 3;
