@@ -1,26 +1,26 @@
 // An event at one node by value, with the lent store: everything that decides. Nothing here touches the table; whoever
 // has it reads the node first and puts it back afterwards. Everything is proved, no function has a `requires`, and each
-// gives what one definition of the crate `outcome` says.
-use admission::first_verdict;
-use carrying::carry_out;
+// gives what one definition of the crate `event` says.
 use delivering::deliver_record;
 use engine::crash;
 use engine::retry;
 use engine::start;
 use engine::write;
-pub use looking::dropping;
-pub use looking::look;
-pub use message_drop::drop_record;
-pub use outcome::Acted;
-pub use outcome::Seen;
-use outcome::refused;
+pub use event::Acted;
+pub use event::Seen;
+use event::carry_out;
+pub use event::drop_record;
+use event::first_verdict;
+pub use event::inspect::dropping;
+pub use event::inspect::look;
+use event::refused;
 use protocol::Event;
 use protocol::Node;
 use protocol::Refusal;
 use protocol::Step;
 use protocol::Verdict;
 ghost use mathlib.Core.Path.{_≡_};
-ghost use Rattle.outcome.specs.Act.{handedBack, atNode, firstVerdict, admitted, acted};
+ghost use Rattle.event.specs.Act.{handedBack, atNode, firstVerdict, admitted, acted};
 
 // The decision of node `k`, where the group has this node.
 fn at_node(s: &mut [u8], node: Node, seen: Seen, k: u64, step: Step) -> Acted

@@ -10,10 +10,10 @@ use Rattle.protocol.specs.declared.Answer.{Answer}
 use Rattle.protocol.specs.declared.Event.{Event}
 use Rattle.protocol.specs.declared.Event.the-variants as event
 use Rattle.protocol.specs.declared.Node.{Node}
-use Rattle.outcome.specs.declared.Dropping.{Dropping}
-use Rattle.outcome.specs.declared.Seen.{Seen}
-use Rattle.outcome.specs.Act.{acted, droppingOf}
-use Rattle.outcome.proofs.Laws.{drop-node, dropping-is}
+use Rattle.event.specs.declared.Dropping.{Dropping}
+use Rattle.event.specs.declared.Seen.{Seen}
+use Rattle.event.specs.Act.{acted, droppingOf}
+use Rattle.event.proofs.Laws.{drop-node, dropping-is}
 use Rattle.place.specs.AtPlace.{atPlace}
 use Rattle.table.proofs.Given.{Gives}
 

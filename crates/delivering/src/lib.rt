@@ -1,16 +1,16 @@
 // Delivery of the message in a record. Everything is proved, no function has a `requires`, and each gives what one
-// definition of the crate `outcome` says.
-use admission::first_verdict;
-use carrying::carry_decision;
-use carrying::carry_out;
+// definition of the crate `event` says.
 use engine::Decided;
 use engine::decide;
 use engine::on_table;
+use event::Acted;
+use event::Seen;
+use event::carry_decision;
+use event::carry_out;
+use event::first_verdict;
+use event::refused;
 use item::Incarnation;
 use message::Reading;
-use outcome::Acted;
-use outcome::Seen;
-use outcome::refused;
 use protocol::Node;
 use protocol::Refusal;
 use protocol::Verdict;
@@ -20,7 +20,7 @@ ghost use Rattle.record.specs.Layout.{recordOf, rowsOf};
 ghost use Rattle.store.specs.Sound.{messageAt};
 ghost use Rattle.protocol.specs.Fetching.{onTable};
 ghost use Rattle.protocol.specs.declared.Event.the-variants.{Deliver};
-ghost use Rattle.outcome.specs.Act.{handedBack, carriedOut, delivered, acted};
+ghost use Rattle.event.specs.Act.{handedBack, carriedOut, delivered, acted};
 
 // Delivery of the Table in record `r`, which the whole node decides.
 fn deliver_table(

@@ -29,10 +29,10 @@ use Rattle.protocol.specs.declared.Node.{Node}
 use Rattle.protocol.specs.declared.Refusal.{Refusal}
 use Rattle.protocol.specs.declared.Refusal.the-variants.{StoreLength, Unsound, NoNode, NoRoom, NoMessage}
 use Rattle.protocol.specs.declared.Step.{Step}
-use Rattle.outcome.specs.Act as one
-use Rattle.outcome.specs.Act.{Outcome, addresseeOf, placeOf, lookAt}
-use Rattle.outcome.specs.declared.Seen.{Seen}
-use Rattle.outcome.proofs.Laws.{first-table, first-taken, acted-refused, acted-taken}
+use Rattle.event.specs.Act as one
+use Rattle.event.specs.Act.{Outcome, addresseeOf, placeOf, lookAt}
+use Rattle.event.specs.declared.Seen.{Seen}
+use Rattle.event.proofs.Laws.{first-table, first-taken, acted-refused, acted-taken}
 use Rattle.place.specs.AtPlace.{putBack, atPlace}
 use Rattle.applying.proofs.Dropped.{same-node}
 

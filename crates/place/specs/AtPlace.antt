@@ -7,8 +7,8 @@ use Rattle.operations.specs.Operation.{Result}
 use Rattle.protocol.specs.Table.{nodeAt}
 use Rattle.protocol.specs.declared.Event.{Event}
 use Rattle.protocol.specs.declared.Node.{Node}
-use Rattle.outcome.specs.Act.{Outcome, acted}
-use Rattle.outcome.specs.declared.Seen.{Seen}
+use Rattle.event.specs.Act.{Outcome, acted}
+use Rattle.event.specs.declared.Seen.{Seen}
 
 -- the node afterwards stands at its place; where the table has none nothing is put
 abbrev pub putBack : List Node → ℕ → Outcome → Result

@@ -1,6 +1,6 @@
 -- `act::act` meets its contract: an arm for each event.
-use Rattle.outcome.proofs.Laws.{sound-write, sound-retry, sound-crash, sound-start, drop-node}
-use Rattle.outcome.specs.Act.{Outcome, handedBack, firstVerdict, admitted, acted}
+use Rattle.event.proofs.Laws.{sound-write, sound-retry, sound-crash, sound-start, drop-node}
+use Rattle.event.specs.Act.{Outcome, handedBack, firstVerdict, admitted, acted}
 use Rattle.protocol.specs.declared.Event.{Event}
 use denote.Ref.{now}
 use mathlib.Core.Path.{sym, ap, _∙_}

@@ -1,7 +1,7 @@
 -- `act::at_node` meets its contract.
-use Rattle.outcome.proofs.Laws.{at-none, at-some}
+use Rattle.event.proofs.Laws.{at-none, at-some}
 use native.Mathlib.Omega.{arith}
-use Rattle.outcome.specs.Act.{Outcome, handedBack}
+use Rattle.event.specs.Act.{Outcome, handedBack}
 use denote.Ref.{now}
 use mathlib.Core.Path.{_≡_, refl, sym, ap, _∙_}
 use borrow.Author.Needs.{needs}

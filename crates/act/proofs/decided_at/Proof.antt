@@ -1,5 +1,5 @@
 -- `act::decided_at` meets its contract: an arm for each verdict.
-use Rattle.outcome.specs.Act.{Outcome, handedBack, atNode, admitted}
+use Rattle.event.specs.Act.{Outcome, handedBack, atNode, admitted}
 use Rattle.protocol.specs.declared.Verdict.{Verdict}
 use denote.Ref.{now}
 use mathlib.Core.Path.{sym, ap, _∙_}

@@ -45,9 +45,9 @@ use denote.Exit.{yes}
 use Rattle.protocol.specs.declared.Node.{Node}
 use Rattle.protocol.specs.declared.Event.{Event}
 use Rattle.protocol.specs.declared.Answer.{Answer}
-use Rattle.outcome.specs.declared.Dropping.{Dropping}
-use Rattle.outcome.specs.declared.Seen.{Seen}
-use Rattle.outcome.specs.Act.{droppingOf}
+use Rattle.event.specs.declared.Dropping.{Dropping}
+use Rattle.event.specs.declared.Seen.{Seen}
+use Rattle.event.specs.Act.{droppingOf}
 use Rattle.place.specs.AtPlace.{atPlace}
 use Rattle.table.proofs.Offsets.{numberAt}
 use Rattle.table.proofs.Walk.{env-of, holds}
@@ -58,18 +58,18 @@ use Rattle.protocol.proofs.Event.Laws as K′
 use Rattle.protocol.proofs.Answer as An
 use Rattle.protocol.proofs.Answer.Laws as An′
 use Rattle.protocol.proofs.Node as T
-use Rattle.outcome.proofs.Seen as S
-use Rattle.outcome.proofs.Seen.Laws as S′
-use Rattle.outcome.proofs.Dropping as D
-use Rattle.outcome.proofs.Dropping.Laws as D′
-use Rattle.looking.proofs.dropping as drops
-use Rattle.looking.proofs.dropping.Symbol as drops-def
-use Rattle.looking.proofs.dropping.Symbol.{name as #drops}
-use Rattle.looking.proofs.dropping.Met as drops-thm
-use Rattle.message_drop.proofs.drop_record as record-drop
-use Rattle.message_drop.proofs.drop_record.Symbol as record-drop-def
-use Rattle.message_drop.proofs.drop_record.Symbol.{name as #record-drop}
-use Rattle.message_drop.proofs.drop_record.Met as record-drop-thm
+use Rattle.event.proofs.Seen as S
+use Rattle.event.proofs.Seen.Laws as S′
+use Rattle.event.proofs.Dropping as D
+use Rattle.event.proofs.Dropping.Laws as D′
+use Rattle.event.proofs.inspect.dropping as drops
+use Rattle.event.proofs.inspect.dropping.Symbol as drops-def
+use Rattle.event.proofs.inspect.dropping.Symbol.{name as #drops}
+use Rattle.event.proofs.inspect.dropping.Met as drops-thm
+use Rattle.event.proofs.drop_record as record-drop
+use Rattle.event.proofs.drop_record.Symbol as record-drop-def
+use Rattle.event.proofs.drop_record.Symbol.{name as #record-drop}
+use Rattle.event.proofs.drop_record.Met as record-drop-thm
 use Rattle.place.proofs.act_at_place as place
 use Rattle.place.proofs.act_at_place.Symbol as place-def
 use Rattle.place.proofs.act_at_place.Symbol.{name as #place}

@@ -1,6 +1,6 @@
 -- `delivering::deliver_message` meets its contract: no message, what is decided by what is seen of the node, or a Table.
-use Rattle.outcome.proofs.Laws.{delivered-none, delivered-some}
-use Rattle.outcome.specs.Act.{Outcome, handedBack}
+use Rattle.event.proofs.Laws.{delivered-none, delivered-some}
+use Rattle.event.specs.Act.{Outcome, handedBack}
 use Rattle.record.specs.Layout.{recordOf, rowsOf}
 use Rattle.protocol.specs.Deliver.{deliverStep}
 use Rattle.protocol.specs.Fetching.{onTable}

@@ -1,6 +1,6 @@
 -- `delivering::deliver_record` meets its contract: an arm for each verdict.
-use Rattle.outcome.proofs.Laws.{acted-refused, acted-taken, sound-deliver}
-use Rattle.outcome.specs.Act.{Outcome, handedBack}
+use Rattle.event.proofs.Laws.{acted-refused, acted-taken, sound-deliver}
+use Rattle.event.specs.Act.{Outcome, handedBack}
 use Rattle.protocol.specs.declared.Event.the-variants as event
 use denote.Ref.{now}
 use mathlib.Core.Path.{refl, sym, ap, _∙_}

@@ -1,7 +1,7 @@
 -- `delivering::deliver_table` meets its contract.
 use Rattle.protocol.specs.Fetching.{onTable}
 use Rattle.protocol.specs.declared.Step.{Step}
-use Rattle.outcome.specs.Act.{handedBack, carriedOut}
+use Rattle.event.specs.Act.{handedBack, carriedOut}
 use denote.Ref.{now}
 use mathlib.Core.Path.{ap, _∙_}
 use borrow.Author.Needs.{needs}

@@ -47,8 +47,8 @@ use Rattle.protocol.specs.declared.Event.{Event}
 use Rattle.protocol.specs.declared.Answer.{Answer}
 use Rattle.operations.specs.Operation as operation
 use Rattle.protocol.specs.Table.{soundTable}
-use Rattle.outcome.specs.declared.Seen.{Seen}
-use Rattle.outcome.specs.Act.{lookAt}
+use Rattle.event.specs.declared.Seen.{Seen}
+use Rattle.event.specs.Act.{lookAt}
 use Rattle.place.specs.AtPlace.{atPlace}
 use Rattle.table.proofs.Offsets.{nAt}
 use Rattle.table.proofs.Shared.{LentShared, lends-shared, shared-back}
@@ -59,12 +59,12 @@ use Rattle.protocol.proofs.Answer as An
 use Rattle.protocol.proofs.Answer.Laws as An′
 use Rattle.protocol.proofs.Node as T
 use Rattle.protocol.proofs.Node.Laws as T′
-use Rattle.outcome.proofs.Seen as S
-use Rattle.outcome.proofs.Seen.Laws as S′
-use Rattle.looking.proofs.look as looks
-use Rattle.looking.proofs.look.Symbol as look-def
-use Rattle.looking.proofs.look.Symbol.{name as #look}
-use Rattle.looking.proofs.look.Met as look-thm
+use Rattle.event.proofs.Seen as S
+use Rattle.event.proofs.Seen.Laws as S′
+use Rattle.event.proofs.inspect.look as looks
+use Rattle.event.proofs.inspect.look.Symbol as look-def
+use Rattle.event.proofs.inspect.look.Symbol.{name as #look}
+use Rattle.event.proofs.inspect.look.Met as look-thm
 use Rattle.table_check.proofs.check_table as checks
 use Rattle.table_check.proofs.check_table.Symbol as check-def
 use Rattle.table_check.proofs.check_table.Symbol.{name as #check}

@@ -46,9 +46,9 @@ use Rattle.protocol.specs.declared.Node.{Node}
 use Rattle.protocol.specs.declared.Event.{Event}
 use Rattle.protocol.specs.declared.Answer.{Answer}
 use Rattle.protocol.specs.Table.{noNode, nodeAt}
-use Rattle.outcome.specs.declared.Acted.{Acted}
-use Rattle.outcome.specs.declared.Seen.{Seen}
-use Rattle.outcome.specs.Act.{acted, handedBack}
+use Rattle.event.specs.declared.Acted.{Acted}
+use Rattle.event.specs.declared.Seen.{Seen}
+use Rattle.event.specs.Act.{acted, handedBack}
 use Rattle.place.specs.AtPlace.{atPlace}
 use Rattle.table.proofs.Offsets.{placeAt, afterAnswer}
 use Rattle.table.proofs.Shared.{LentShared, lends-shared, shared-back}
@@ -58,10 +58,10 @@ use Rattle.protocol.proofs.Answer as An
 use Rattle.protocol.proofs.Answer.Laws as An′
 use Rattle.protocol.proofs.Node as T
 use Rattle.protocol.proofs.Node.Laws as T′
-use Rattle.outcome.proofs.Seen as S
-use Rattle.outcome.proofs.Seen.Laws as S′
-use Rattle.outcome.proofs.Acted as O
-use Rattle.outcome.proofs.Acted.Laws as O′
+use Rattle.event.proofs.Seen as S
+use Rattle.event.proofs.Seen.Laws as S′
+use Rattle.event.proofs.Acted as O
+use Rattle.event.proofs.Acted.Laws as O′
 use Rattle.table.proofs.node_at as node-at
 use Rattle.table.proofs.node_at.Symbol as node-at-def
 use Rattle.table.proofs.node_at.Symbol.{name as #node-at}

@@ -1,0 +1,141 @@
+-- An event at one node by value, with the store: the shape of `perform`, where the table is one node and a mark whether
+-- the table is sound.
+use Prim.Native.Nat.{ℕ}
+use mathlib.Core.Bool.{Bool, true, false, cond, _&&_}
+use mathlib.Core.List.{List}
+use lib.Dec.{ltb}
+use Rattle.message.specs.declared.Outgoing.{Outgoing}
+use Rattle.record.specs.Layout.{rowsOf}
+use Rattle.message.specs.declared.Reading.{Reading}
+use Rattle.message.specs.declared.Reading.the-variants.{Found, Fault}
+use Rattle.store.specs.Records.{rightLength, recordsOf, recordIn, onRecords}
+use Rattle.store.specs.Sound.{survey, messageAt}
+use Rattle.store.specs.Change.{putEach, countOutgoing, dropIn}
+use Rattle.protocol.specs.Deliver.{deliverStep}
+use Rattle.protocol.specs.Answer.{isRefused}
+use Rattle.protocol.specs.Node.{rowItems}
+use Rattle.protocol.specs.Outgoing.{outgoing}
+use Rattle.protocol.specs.Write.{writeStep, retryStep, crashStep, startStep}
+use Rattle.protocol.specs.declared.Answer.{Answer}
+use Rattle.protocol.specs.declared.Answer.the-variants as answer
+use Rattle.protocol.specs.declared.Event.{Event}
+use Rattle.protocol.specs.declared.Event.the-variants as event
+use Rattle.protocol.specs.declared.Node.{Node}
+use Rattle.protocol.specs.declared.Refusal.{Refusal}
+use Rattle.protocol.specs.declared.Refusal.the-variants.{StoreLength, Unsound, NoNode, NoRoom, NoMessage}
+use Rattle.protocol.specs.declared.Step.{Step}
+use Rattle.protocol.specs.declared.Verdict.{Verdict}
+use Rattle.protocol.specs.declared.Verdict.the-variants.{Take, Refuse}
+use Rattle.event.specs.declared.Acted.{Acted}
+use Rattle.event.specs.declared.Dropping.{Dropping}
+use Rattle.event.specs.declared.Seen.{Seen}
+
+-- ---- before the table is read
+
+-- the addressee of a message; 0 where there is none
+unfoldable pub addresseeOf : Reading → ℕ
+addresseeOf Fault = 0
+addresseeOf (Found e) = e .addressee
+
+-- whose event it is: the node number given, or the addressee of the message
+unfoldable pub placeOf : Event → List ℕ → ℕ
+placeOf (event.Write k tag) store = k
+placeOf (event.Retry k) store = k
+placeOf (event.Crash k) store = k
+placeOf (event.Start k) store = k
+placeOf (event.Drop r) store = addresseeOf (messageAt store r)
+placeOf (event.Deliver r) store = addresseeOf (messageAt store r)
+
+-- what is seen of store and event
+unfoldable pub lookAt : Event → List ℕ → Seen
+lookAt e store =
+    record {
+      sound = survey store .sound;
+      n = survey store .n;
+      free = survey store .free;
+      place = placeOf e store;
+    }
+
+abbrev pub noDrop : Dropping
+noDrop = record { drops = false; number = 0 }
+
+-- which record an event drops
+unfoldable pub droppingOf : Event → Dropping
+droppingOf (event.Write k tag) = noDrop
+droppingOf (event.Retry k) = noDrop
+droppingOf (event.Crash k) = noDrop
+droppingOf (event.Start k) = noDrop
+droppingOf (event.Drop r) = record { drops = true; number = r }
+droppingOf (event.Deliver r) = noDrop
+
+-- ---- one node and the store
+
+-- the answer, and the node and the store afterwards
+pub record Outcome : Type 0 where
+  pub answer : Answer
+  pub node : Node
+  pub store : List ℕ
+
+-- the part of it that is handed back; the store is lent
+abbrev pub handedBack : Outcome → Acted
+handedBack o = record { answer = o .answer; node = o .node }
+
+abbrev pub refusedWith : Refusal → Node → Acted
+refusedWith why node = record { answer = answer.Refused why; node = node }
+
+abbrev pub refuse : Refusal → Node → List ℕ → Outcome
+refuse why node store = record { answer = answer.Refused why; node = node; store = store }
+
+-- "7: too few free records for what it would send"
+unfoldable pub sentBy : Node → List ℕ → ℕ → Step → List Outgoing → Outcome
+sentBy node store free step out =
+    cond (ltb free (countOutgoing out)) (refuse NoRoom node store)
+    (record {
+      answer = step .answer;
+      node = step .node;
+      store = onRecords (λ rs. putEach rs out (rowItems (step .node))) store;
+    })
+
+-- a refused decision leaves everything as it was
+unfoldable pub carriedOut : Node → List ℕ → ℕ → ℕ → Step → Outcome
+carriedOut node store free back step =
+    cond (isRefused (step .answer)) (record { answer = step .answer; node = node; store = store })
+    (sentBy node store free step (outgoing (step .node) (step .sends) back))
+
+-- "4: node number not below n, where one is given"
+unfoldable pub atNode : Node → List ℕ → Seen → ℕ → Step → Outcome
+atNode node store look k step =
+    cond (ltb k (look .n)) (carriedOut node store (look .free) k step) (refuse NoNode node store)
+
+-- "8: not on an inbox chain"
+unfoldable pub dropped : Reading → Node → List ℕ → ℕ → Outcome
+dropped Fault node store r = refuse NoMessage node store
+dropped (Found e) node store r =
+    record { answer = answer.Ok; node = node; store = onRecords (λ rs. dropIn rs (e .addressee) r) store }
+
+unfoldable pub delivered : Reading → Node → List ℕ → ℕ → ℕ → Outcome
+delivered Fault node store free r = refuse NoMessage node store
+delivered (Found e) node store free r =
+    carriedOut node store free (e .sender) (deliverStep node e (rowsOf (recordIn (recordsOf store) r)))
+
+-- an event on a sound table and store
+unfoldable pub onSound : Event → Node → List ℕ → Seen → Outcome
+onSound (event.Write k tag) node store look = atNode node store look k (writeStep node tag)
+onSound (event.Retry k) node store look = atNode node store look k (retryStep node)
+onSound (event.Crash k) node store look = atNode node store look k (crashStep node)
+onSound (event.Start k) node store look = atNode node store look k (startStep node)
+onSound (event.Drop r) node store look = dropped (messageAt store r) node store r
+onSound (event.Deliver r) node store look = delivered (messageAt store r) node store (look .free) r
+
+-- "2 as above; 3: store or table unsound"
+unfoldable pub firstVerdict : List ℕ → Bool → Seen → Verdict
+firstVerdict store soundTable look =
+    cond (rightLength store) (cond (look .sound && soundTable) Take (Refuse Unsound)) (Refuse StoreLength)
+
+-- "then 4": what comes of an event that nothing refuses before
+unfoldable pub admitted : Verdict → Node → List ℕ → Outcome → Outcome
+admitted (Refuse why) node store o = refuse why node store
+admitted Take node store o = o
+
+unfoldable pub acted : Event → Bool → Seen → Node → List ℕ → Outcome
+acted e soundTable look node store = admitted (firstVerdict store soundTable look) node store (onSound e node store look)
