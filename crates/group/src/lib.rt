@@ -13,6 +13,6 @@ pub fn perform(table: &mut [Node], store: &mut [u8], event: Event) -> Answer
     ensures { λ r. ⌜ (r ≡ operation.perform event (now (table .entry)) (now (store .entry)) .answer) × ((now (table .exit) ≡ operation.perform event (now (table .entry)) (now (store .entry)) .table) × (now (store .exit) ≡ operation.perform event (now (table .entry)) (now (store .entry)) .store)) ⌝ }
 {
     let seen = act::look(store, event);
-    let sound = table_check::check_table(table, seen.n);
+    let sound = table::check_table(table, seen.n);
     applying::apply(table, store, sound, seen, event)
 }

@@ -22,8 +22,8 @@ use Rattle.protocol.specs.declared.Answer.the-variants as answer
 use Rattle.protocol.specs.declared.Node.{Node}
 use Rattle.protocol.specs.declared.Refusal.the-variants.{GroupSize, StoreLength}
 use Rattle.protocol.proofs.InView.{size-fits}
-use Rattle.table_fill.specs.Fill.{freshTo}
-use Rattle.table_fill.specs.Laws.{fresh-all}
+use Rattle.table.specs.Fill.{freshTo}
+use Rattle.table.specs.FillLaws.{fresh-all}
 use Rattle.group_setup.specs.SetUp.{notPrepared, prepared, preparedStore}
 use Rattle.group_setup.specs.declared.Prepared.{Prepared}
 

@@ -48,6 +48,6 @@ pub fn set_up(table: &mut [Node], store: &mut [u8], n: u64) -> Answer
     ensures { λ r. ⌜ (r ≡ operation.setUp n (now (table .entry)) (now (store .entry)) .answer) × ((now (table .exit) ≡ operation.setUp n (now (table .entry)) (now (store .entry)) .table) × (now (store .exit) ≡ operation.setUp n (now (table .entry)) (now (store .entry)) .store)) ⌝ }
 {
     let prepared = prepare(store, n as usize, table.len());
-    table_fill::fill_table(table, prepared.fresh);
+    table::fill_table(table, prepared.fresh);
     prepared.answer
 }

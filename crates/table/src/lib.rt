@@ -1,6 +1,9 @@
-// The table: a lent slice of nodes, of which one is read or replaced. With the crates `table_check` and `table_fill` these
-// few functions are the only ones that touch a slice of nodes, and none of them decides anything. Everything is proved,
-// and no function has a `requires`.
+// The table: a lent slice of nodes. One is read or replaced, all are checked, all are filled; nothing is decided here.
+mod check;
+mod fill;
+
+pub use check::check_table;
+pub use fill::fill_table;
 use item::Incarnation;
 use protocol::Node;
 ghost use mathlib.Core.Path.{_≡_};

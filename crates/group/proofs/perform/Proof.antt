@@ -65,10 +65,10 @@ use Rattle.event.proofs.inspect.look as looks
 use Rattle.event.proofs.inspect.look.Symbol as look-def
 use Rattle.event.proofs.inspect.look.Symbol.{name as #look}
 use Rattle.event.proofs.inspect.look.Met as look-thm
-use Rattle.table_check.proofs.check_table as checks
-use Rattle.table_check.proofs.check_table.Symbol as check-def
-use Rattle.table_check.proofs.check_table.Symbol.{name as #check}
-use Rattle.table_check.proofs.check_table.Met as check-thm
+use Rattle.table.proofs.check_table as checks
+use Rattle.table.proofs.check_table.Symbol as check-def
+use Rattle.table.proofs.check_table.Symbol.{name as #check}
+use Rattle.table.proofs.check_table.Met as check-thm
 use Rattle.applying.proofs.apply as place
 use Rattle.applying.proofs.apply.Symbol as place-def
 use Rattle.applying.proofs.apply.Symbol.{name as #place}
@@ -243,5 +243,5 @@ perform-spec 𝓤 H 𝓜 𝓖 𝓡 =
     (tables 𝓤 H 𝓜 𝓡 code.env .C) (tables 𝓤 H 𝓜 𝓡 code.env .Λ) #perform code.function (code.unfolded 𝓤 H 𝓜 𝓡)
     (perform-meets 𝓤 H (𝓖 .A) (givenOf 𝓤 H 𝓜 𝓖) (𝓜 .mem) (𝓡 .run) (tablesOf 𝓤 H 𝓜 (tables 𝓤 H 𝓜 𝓡 code.env))
     (cited 𝓤 H (Look 𝓤 H (𝓖 .A) (𝓜 .mem) (𝓡 .run)) 𝓜 𝓡 code.env #look look-def.routine code.calls-act·look (look-thm.met 𝓤 H 𝓜 𝓖 𝓡))
-    (cited 𝓤 H (Check 𝓤 H (𝓖 .A) (𝓜 .mem) (𝓡 .run)) 𝓜 𝓡 code.env #check check-def.routine code.calls-table-check·check-table (check-thm.met 𝓤 H 𝓜 𝓖 𝓡))
+    (cited 𝓤 H (Check 𝓤 H (𝓖 .A) (𝓜 .mem) (𝓡 .run)) 𝓜 𝓡 code.env #check check-def.routine code.calls-table·check-table (check-thm.met 𝓤 H 𝓜 𝓖 𝓡))
     (cited 𝓤 H (Place 𝓤 H (𝓖 .A) (𝓜 .mem) (𝓡 .run)) 𝓜 𝓡 code.env #place place-def.routine code.calls-applying·apply (place-thm.met 𝓤 H 𝓜 𝓖 𝓡)))

@@ -43,7 +43,7 @@ use denote.Exit.{yes}
 use Rattle.protocol.specs.declared.Node.{Node}
 use Rattle.protocol.specs.declared.Answer.{Answer}
 use Rattle.operations.specs.Operation as operation
-use Rattle.table_fill.specs.Fill.{freshTo}
+use Rattle.table.specs.Fill.{freshTo}
 use Rattle.group_setup.specs.declared.Prepared.{Prepared}
 use Rattle.group_setup.specs.SetUp.{prepared, preparedStore}
 use Rattle.table.proofs.Offsets.{afterAnswer}
@@ -57,10 +57,10 @@ use Rattle.group_setup.proofs.prepare as prepare
 use Rattle.group_setup.proofs.prepare.Symbol as prepare-def
 use Rattle.group_setup.proofs.prepare.Symbol.{name as #prepare}
 use Rattle.group_setup.proofs.prepare.Met as prepare-thm
-use Rattle.table_fill.proofs.fill_table as fill
-use Rattle.table_fill.proofs.fill_table.Symbol as fill-def
-use Rattle.table_fill.proofs.fill_table.Symbol.{name as #fill}
-use Rattle.table_fill.proofs.fill_table.Met as fill-thm
+use Rattle.table.proofs.fill_table as fill
+use Rattle.table.proofs.fill_table.Symbol as fill-def
+use Rattle.table.proofs.fill_table.Symbol.{name as #fill}
+use Rattle.table.proofs.fill_table.Met as fill-thm
 use Rattle.group_setup.proofs.set_up.Key.{name as #set-up}
 use Rattle.group_setup.proofs.set_up as set-up
 use Rattle.group_setup.proofs.set_up.Statement as stated
@@ -198,4 +198,4 @@ set-up-spec 𝓤 H 𝓜 𝓖 𝓡 =
     (tables 𝓤 H 𝓜 𝓡 code.env .C) (tables 𝓤 H 𝓜 𝓡 code.env .Λ) #set-up code.function (code.unfolded 𝓤 H 𝓜 𝓡)
     (set-up-meets 𝓤 H (𝓖 .A) (givenOf 𝓤 H 𝓜 𝓖) (𝓜 .mem) (𝓡 .run) (tablesOf 𝓤 H 𝓜 (tables 𝓤 H 𝓜 𝓡 code.env))
     (cited 𝓤 H (Prepare 𝓤 H (𝓖 .A) (𝓜 .mem) (𝓡 .run)) 𝓜 𝓡 code.env #prepare prepare-def.routine code.calls-group-setup·prepare (prepare-thm.met 𝓤 H 𝓜 𝓖 𝓡))
-    (cited 𝓤 H (Fill 𝓤 H (𝓖 .A) (𝓜 .mem) (𝓡 .run)) 𝓜 𝓡 code.env #fill fill-def.routine code.calls-table-fill·fill-table (fill-thm.met 𝓤 H 𝓜 𝓖 𝓡)))
+    (cited 𝓤 H (Fill 𝓤 H (𝓖 .A) (𝓜 .mem) (𝓡 .run)) 𝓜 𝓡 code.env #fill fill-def.routine code.calls-table·fill-table (fill-thm.met 𝓤 H 𝓜 𝓖 𝓡)))

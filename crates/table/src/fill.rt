@@ -1,10 +1,10 @@
 // A lent table as set-up leaves it: the loop over its nodes, each of which is made by value. Everything is proved, and no
 // function has a `requires`.
+use crate::replace_node;
 use protocol::Node;
-use table::replace_node;
 ghost use mathlib.Core.Path.{_≡_};
 ghost use Rattle.protocol.specs.Node.{freshNode};
-ghost use Rattle.table_fill.specs.Fill.{freshTo};
+ghost use Rattle.table.specs.Fill.{freshTo};
 
 // Node `i` of a group of n as it is set up.
 fn fresh_at(i: usize, n: usize) -> Node

@@ -1,7 +1,7 @@
--- `table_fill::fresh_at` meets its contract.
+-- `table::fill::fresh_at` meets its contract.
 use borrow.Author.Needs.{needs}
-use Rattle.table_fill.proofs.fresh_at.Statement.{statement}
-use Rattle.table_fill.proofs.fresh_at.Tie as tie
+use Rattle.table.proofs.fill.fresh_at.Statement.{statement}
+use Rattle.table.proofs.fill.fresh_at.Tie as tie
 
 fresh-node-requires : tie.Need-fresh-node-requires
 fresh-node-requires c κs = search needs

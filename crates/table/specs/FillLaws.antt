@@ -8,7 +8,7 @@ use lib.Seq.{drop-cons, set-append-seam}
 use Rattle.protocol.specs.Node.{freshNode}
 use Rattle.protocol.specs.Table.{noNode, freshNodes, freshTable}
 use Rattle.protocol.specs.declared.Node.{Node}
-use Rattle.table_fill.specs.Fill.{freshTo}
+use Rattle.table.specs.Fill.{freshTo}
 
 fresh-length : (n k left : ℕ) → length (freshNodes n k left) ≡ left
 unfolding freshNodes

@@ -10,7 +10,7 @@ use lib.Seq.{take-suc, take-length, length-take-le}
 use Rattle.protocol.specs.Sound.{soundNode, everyFrom}
 use Rattle.protocol.specs.Table.{noNode, soundTable}
 use Rattle.protocol.specs.declared.Node.{Node}
-use Rattle.table_check.specs.Check.{soundTo}
+use Rattle.table.specs.Check.{soundTo}
 
 and-rest : (a b c : Bool) → ((a && b) && c) ≡ (a && (b && c))
 and-rest true b c = refl

@@ -1,7 +1,7 @@
--- `table_check::and_sound` meets its contract: it is the call.
+-- `table::check::and_sound` meets its contract: it is the call.
 use borrow.Author.Needs.{needs}
-use Rattle.table_check.proofs.and_sound.Statement.{statement}
-use Rattle.table_check.proofs.and_sound.Tie as tie
+use Rattle.table.proofs.check.and_sound.Statement.{statement}
+use Rattle.table.proofs.check.and_sound.Tie as tie
 
 node-sound-requires : tie.Need-node-sound-requires
 node-sound-requires c κs = search needs

@@ -1,7 +1,7 @@
 // Whether a lent table is sound: the loop over its nodes, each of which is judged by value. Everything is proved, and no
 // function has a `requires`.
+use crate::node_at;
 use protocol::Node;
-use table::node_at;
 ghost use mathlib.Core.Bool.{_&&_};
 ghost use mathlib.Core.Path.{_≡_};
 ghost use Rattle.protocol.specs.Sound.{soundNode};
