@@ -1,1 +1,3 @@
+pub mod SetUpLaws
+pub mod Dropped
 pub mod PutBack

@@ -33,8 +33,8 @@ use Rattle.event.specs.Act as one
 use Rattle.event.specs.Act.{Outcome, addresseeOf, placeOf, lookAt}
 use Rattle.event.specs.declared.Seen.{Seen}
 use Rattle.event.proofs.Laws.{first-table, first-taken, acted-refused, acted-taken}
-use Rattle.place.specs.AtPlace.{putBack, atPlace}
-use Rattle.applying.proofs.Dropped.{same-node}
+use Rattle.group.specs.AtPlace.{putBack, atPlace}
+use Rattle.group.proofs.Dropped.{same-node}
 
 back-cond : (table : List Node) (k : ℕ) (c : Bool) (a b : Outcome) → putBack table k (cond c a b) ≡ cond c (putBack table k a) (putBack table k b)
 back-cond table k true a b = refl

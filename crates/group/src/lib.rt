@@ -1,7 +1,11 @@
 // The group: its seven operations over a lent table and a lent message store, of any length and content. Everything is
 // proved, no function has a `requires`, and each gives the answer and leaves the table and the store that one definition
 // of the protocol says.
-pub use group_setup::set_up;
+mod apply;
+mod place;
+mod preparing;
+
+pub use preparing::set_up;
 use protocol::Answer;
 use protocol::Event;
 use protocol::Node;
@@ -14,5 +18,5 @@ pub fn perform(table: &mut [Node], store: &mut [u8], event: Event) -> Answer
 {
     let seen = act::look(store, event);
     let sound = table::check_table(table, seen.n);
-    applying::apply(table, store, sound, seen, event)
+    apply::apply(table, store, sound, seen, event)
 }

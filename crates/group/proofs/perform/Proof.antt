@@ -49,7 +49,7 @@ use Rattle.operations.specs.Operation as operation
 use Rattle.protocol.specs.Table.{soundTable}
 use Rattle.event.specs.declared.Seen.{Seen}
 use Rattle.event.specs.Act.{lookAt}
-use Rattle.place.specs.AtPlace.{atPlace}
+use Rattle.group.specs.AtPlace.{atPlace}
 use Rattle.table.proofs.Offsets.{nAt}
 use Rattle.table.proofs.Shared.{LentShared, lends-shared, shared-back}
 use Rattle.group.proofs.PutBack.{performed-calls}
@@ -69,10 +69,10 @@ use Rattle.table.proofs.check_table as checks
 use Rattle.table.proofs.check_table.Symbol as check-def
 use Rattle.table.proofs.check_table.Symbol.{name as #check}
 use Rattle.table.proofs.check_table.Met as check-thm
-use Rattle.applying.proofs.apply as place
-use Rattle.applying.proofs.apply.Symbol as place-def
-use Rattle.applying.proofs.apply.Symbol.{name as #place}
-use Rattle.applying.proofs.apply.Met as place-thm
+use Rattle.group.proofs.apply.apply as place
+use Rattle.group.proofs.apply.apply.Symbol as place-def
+use Rattle.group.proofs.apply.apply.Symbol.{name as #place}
+use Rattle.group.proofs.apply.apply.Met as place-thm
 use Rattle.group.proofs.perform.Key.{name as #perform}
 use Rattle.group.proofs.perform as perform
 use Rattle.group.proofs.perform.Statement as stated
@@ -244,4 +244,4 @@ perform-spec 𝓤 H 𝓜 𝓖 𝓡 =
     (perform-meets 𝓤 H (𝓖 .A) (givenOf 𝓤 H 𝓜 𝓖) (𝓜 .mem) (𝓡 .run) (tablesOf 𝓤 H 𝓜 (tables 𝓤 H 𝓜 𝓡 code.env))
     (cited 𝓤 H (Look 𝓤 H (𝓖 .A) (𝓜 .mem) (𝓡 .run)) 𝓜 𝓡 code.env #look look-def.routine code.calls-act·look (look-thm.met 𝓤 H 𝓜 𝓖 𝓡))
     (cited 𝓤 H (Check 𝓤 H (𝓖 .A) (𝓜 .mem) (𝓡 .run)) 𝓜 𝓡 code.env #check check-def.routine code.calls-table·check-table (check-thm.met 𝓤 H 𝓜 𝓖 𝓡))
-    (cited 𝓤 H (Place 𝓤 H (𝓖 .A) (𝓜 .mem) (𝓡 .run)) 𝓜 𝓡 code.env #place place-def.routine code.calls-applying·apply (place-thm.met 𝓤 H 𝓜 𝓖 𝓡)))
+    (cited 𝓤 H (Place 𝓤 H (𝓖 .A) (𝓜 .mem) (𝓡 .run)) 𝓜 𝓡 code.env #place place-def.routine code.calls-group·apply·apply (place-thm.met 𝓤 H 𝓜 𝓖 𝓡)))

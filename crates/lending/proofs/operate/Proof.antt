@@ -56,10 +56,10 @@ use Rattle.table.proofs.Walk.{env-of, holds, fails}
 use Rattle.table.proofs.Given.{Gives}
 use Rattle.lending.proofs.First.{begins-gives, event-gives}
 use Rattle.lending.proofs.Walk.{beginsAt, eventAt}
-use Rattle.group_setup.proofs.set_up as sets
-use Rattle.group_setup.proofs.set_up.Symbol as sets-def
-use Rattle.group_setup.proofs.set_up.Symbol.{name as #sets}
-use Rattle.group_setup.proofs.set_up.Met as sets-thm
+use Rattle.group.proofs.set_up as sets
+use Rattle.group.proofs.set_up.Symbol as sets-def
+use Rattle.group.proofs.set_up.Symbol.{name as #sets}
+use Rattle.group.proofs.set_up.Met as sets-thm
 use Rattle.group.proofs.perform as performs
 use Rattle.group.proofs.perform.Symbol as performs-def
 use Rattle.group.proofs.perform.Symbol.{name as #performs}
