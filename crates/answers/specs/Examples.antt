@@ -1,7 +1,7 @@
 -- Output lines of document 01, computed from the definitions.
 use mathlib.Core.Path.{_≡_, refl}
 use mathlib.Core.List.{[], _∷_}
-use Rattle.decimal.specs.Digits.{digitsOf, decimalOf}
+use Rattle.script.specs.Digits.{digitsOf, decimalOf}
 use Rattle.protocol.specs.Answer.{refusalNumber}
 use Rattle.protocol.specs.declared.Answer.the-variants.{Ok, Settled, Accepted, Refused}
 use Rattle.protocol.specs.declared.Refusal.the-variants.{Stale}

@@ -8,11 +8,11 @@ use lib.ListN.{length}
 use lib.Seq.{sets}
 use Rattle.item.specs.declared.Item.{Item}
 use Rattle.item.specs.declared.Tag.{Tag}
-use Rattle.decimal.specs.Digits.{decimalOf}
+use Rattle.script.specs.Digits.{decimalOf}
 use Rattle.protocol.specs.Answer.{refusalNumber}
 use Rattle.protocol.specs.declared.Answer.{Answer}
 use Rattle.protocol.specs.declared.Answer.the-variants.{Ok, Settled, Accepted, Stopped, Refused}
-use Rattle.decimal.specs.Bytes.{space, lineFeed}
+use Rattle.script.specs.Bytes.{space, lineFeed}
 use Rattle.answers.specs.declared.Reply.{Reply}
 use Rattle.answers.specs.declared.Reply.the-variants as reply
 

@@ -7,13 +7,13 @@ use mathlib.Core.List.{List, [], _∷_, _++_}
 use lib.ListN.{length, getD, set, drop, drop-of-length-le, length-append}
 use lib.Seq.{sets, drop-cons}
 use Rattle.item.specs.declared.Item.{Item}
-use Rattle.decimal.specs.Digits.{decimalOf, maxDigits}
-use Rattle.decimal.specs.Place.{placed, placeAfter}
-use Rattle.decimal.specs.Writing.{decimal-length, sets-after, placed-fits, after-fits}
+use Rattle.script.specs.Digits.{decimalOf, maxDigits}
+use Rattle.script.specs.Place.{placed, placeAfter}
+use Rattle.script.specs.Writing.{decimal-length, sets-after, placed-fits, after-fits}
 use Rattle.protocol.specs.Answer.{refusalNumber}
 use Rattle.protocol.specs.declared.Answer.{Answer}
 use Rattle.protocol.specs.declared.Answer.the-variants.{Ok, Settled, Accepted, Stopped, Refused}
-use Rattle.decimal.specs.Bytes.{space, lineFeed}
+use Rattle.script.specs.Bytes.{space, lineFeed}
 use Rattle.answers.specs.Output.{Written, tagBytes, itemBytes, answerBytes, replyBytes, outputLine, lineRoom}
 use Rattle.answers.specs.declared.Reply.{Reply}
 use Rattle.answers.specs.declared.Reply.the-variants as reply

@@ -5,14 +5,14 @@ ghost use mathlib.Core.Path.{_≡_};
 ghost use mathlib.Core.List.{_++_};
 ghost use lib.ListN.{length};
 ghost use lib.Seq.{sets};
-ghost use Rattle.decimal.specs.Digits.{decimalOf};
-ghost use Rattle.decimal.specs.Place.{placeAfter, placed};
+ghost use Rattle.script.specs.Digits.{decimalOf};
+ghost use Rattle.script.specs.Place.{placeAfter, placed};
 ghost use Rattle.answers.specs.Output.{Written, answerBytes, itemBytes, lineRoom, outputLine, replyBytes, tagBytes};
-use decimal::put_number;
 use item::Item;
 use item::Tag;
 use protocol::Answer;
 use refusals::refusal_number;
+use script::put_number;
 
 // What an output line says after its count.
 pub enum Reply {

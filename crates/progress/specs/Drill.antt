@@ -7,7 +7,7 @@ use lib.Dec.{eqb}
 use lib.ListN.{length, replicate}
 use Rattle.answers.specs.Output.{outputLine}
 use Rattle.answers.specs.declared.Reply.the-variants as reply
-use Rattle.decimal.specs.Bytes.{lineFeed}
+use Rattle.script.specs.Bytes.{lineFeed}
 use Rattle.script.specs.Line.{lineOf}
 use Rattle.store.specs.Records.{recordCount}
 use Rattle.record.specs.Layout.{recordSize}

@@ -8,9 +8,9 @@ use mathlib.Core.List.{List, [], _∷_, _++_}
 use lib.Dec.{eqb}
 use lib.ListN.{length, take, drop, replicate}
 use Rattle.answers.specs.Output.{outputLine, lineRoom}
-use Rattle.decimal.specs.Bytes.{lineFeed}
-use Rattle.pending.specs.Pending.{noneYet, pushed, pendingLine}
-use Rattle.pending.specs.declared.Pending.{Pending}
+use Rattle.script.specs.Bytes.{lineFeed}
+use Rattle.script.specs.Pending.{noneYet, pushed, pendingLine}
+use Rattle.script.specs.declared.buffer.Pending.{Pending}
 use Rattle.progress.specs.Turn.{Done, noGroup, lineDone}
 use Rattle.progress.specs.Drill.{lastOutput}
 use Rattle.progress.specs.declared.Drill.{Drill}

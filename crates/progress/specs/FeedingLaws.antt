@@ -13,14 +13,14 @@ use Rattle.item.specs.Tests.{by-cond}
 use Rattle.answers.specs.Output.{outputLine, lineRoom}
 use Rattle.answers.specs.Printing.{line-length}
 use Rattle.answers.specs.declared.Reply.{Reply}
-use Rattle.decimal.specs.Bytes.{lineFeed}
-use Rattle.decimal.specs.Place.{placed, placeAfter}
-use Rattle.decimal.specs.Writing.{placed-fits, placed-none, after-fits, after-none}
-use Rattle.pending.specs.Pending.{mostBytes, noneYet, pushed, pushedAll, pendingLine}
+use Rattle.script.specs.Bytes.{lineFeed}
+use Rattle.script.specs.Place.{placed, placeAfter}
+use Rattle.script.specs.Writing.{placed-fits, placed-none, after-fits, after-none}
+use Rattle.script.specs.Pending.{mostBytes, noneYet, pushed, pushedAll, pendingLine}
 use Rattle.script.specs.declared.Line.{Line}
-use Rattle.pending.specs.declared.Pending.{Pending}
+use Rattle.script.specs.declared.buffer.Pending.{Pending}
 use Rattle.record.specs.Layout.{recordSize}
-use Rattle.pending.specs.Gathered.{gathered, gathered-length}
+use Rattle.script.specs.Gathered.{gathered, gathered-length}
 use Rattle.store.specs.Records.{recordCount}
 use Rattle.progress.specs.Turn.{Done, noGroup, lineDone}
 use Rattle.progress.specs.Drill.{lastOutput, outputFrom, drillOutput}

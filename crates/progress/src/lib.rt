@@ -4,8 +4,8 @@
 use answers::Reply;
 use answers::print_line;
 use item::Incarnation;
-use pending::Pending;
 use protocol::Node;
+use script::Pending;
 ghost use Prim.Native.Nat.{_+_, _<_, _≤_, _^_};
 ghost use mathlib.Core.Path.{_≡_};
 ghost use lib.ListN.{length, take};

@@ -1,7 +1,7 @@
 -- Lines of document 01 and what they ask for, computed from the definitions; and lines that are unread.
 use mathlib.Core.Path.{_≡_, refl}
 use mathlib.Core.List.{[], _∷_}
-use Rattle.decimal.specs.Number.{isDigit, allDigits, valueFrom, numberFrom, leadingZero, numberIn}
+use Rattle.script.specs.Number.{isDigit, allDigits, valueFrom, numberFrom, leadingZero, numberIn}
 use Rattle.protocol.specs.declared.Event.the-variants.{Write, Drop, Deliver}
 use Rattle.script.specs.Line.{word, afterWord, tagOf, tagIn, writeWith, writeOf, withNumber, oneNumber, lettered, lineOf}
 use Rattle.script.specs.declared.Line.the-variants.{SetUp, Call, Unread}

@@ -1,4 +1,12 @@
+pub mod Bytes
+pub mod Number
+pub mod Digits
+pub mod Place
+pub mod NumberReading
+pub mod Writing
 pub mod Line
 pub mod Reading
 pub mod Examples
 pub mod Operated
+pub mod Pending
+pub mod Gathered

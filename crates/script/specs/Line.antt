@@ -6,10 +6,10 @@ use mathlib.Core.Bool.{_&&_, cond}
 use mathlib.Core.List.{List, [], _∷_}
 use lib.Dec.{leb, eqb}
 use lib.ListN.{length, getD, drop}
-use Rattle.decimal.specs.Bytes.{space}
-use Rattle.decimal.specs.Number.{numberIn}
-use Rattle.decimal.specs.declared.Number.{Number}
-use Rattle.decimal.specs.declared.Number.the-variants as number
+use Rattle.script.specs.Bytes.{space}
+use Rattle.script.specs.Number.{numberIn}
+use Rattle.script.specs.declared.decimal.Number.{Number}
+use Rattle.script.specs.declared.decimal.Number.the-variants as number
 use Rattle.protocol.specs.declared.Event.the-variants.{Write, Retry, Crash, Start, Drop, Deliver}
 use Rattle.script.specs.declared.Line.{Line}
 use Rattle.script.specs.declared.Line.the-variants.{SetUp, Call, Unread}

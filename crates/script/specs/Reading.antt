@@ -10,11 +10,11 @@ use lib.ListN.{length, getD, take, drop, set, drop-of-length-le, length-drop, le
 use lib.Seq.{drop-cons, take-all, take-suc-set, take-append-le, length-take-le, append-snoc}
 use borrow.Author.Tests.{ltb-true, ltb-false, leb-true, leb-false, ne-eqb}
 use Rattle.item.specs.Tests.{by-cond}
-use Rattle.decimal.specs.Bytes.{space}
-use Rattle.decimal.specs.Number.{numberIn}
-use Rattle.decimal.specs.Reading.{too-long, none-in}
-use Rattle.decimal.specs.declared.Number.{Number}
-use Rattle.decimal.specs.declared.Number.the-variants as number
+use Rattle.script.specs.Bytes.{space}
+use Rattle.script.specs.Number.{numberIn}
+use Rattle.script.specs.NumberReading.{too-long, none-in}
+use Rattle.script.specs.declared.decimal.Number.{Number}
+use Rattle.script.specs.declared.decimal.Number.the-variants as number
 use Rattle.script.specs.Line.{word, afterWord, tagOf, tagIn, writeWith, writeOf, oneNumber, lettered, lineOf}
 use Rattle.script.specs.declared.Line.the-variants.{Unread}
 use Rattle.script.specs.declared.TagField.the-variants as tag

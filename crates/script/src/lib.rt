@@ -1,7 +1,13 @@
 // The drill's script: its input lines read, and what a line asks of the group. Everything is proved, no public function has a `requires`, and each gives what
 // one definition of specs/ says.
+mod buffer;
+mod decimal;
+
+pub use buffer::Pending;
+pub use buffer::read_pending;
 use decimal::Number;
 use decimal::number_in;
+pub use decimal::put_number;
 use item::Tag;
 use protocol::Event;
 ghost use mathlib.Core.Path.{_≡_};

@@ -9,12 +9,12 @@ use lib.ListN.{length, getD, take, drop}
 use lib.Seq.{drop-cons}
 use Rattle.answers.specs.Output.{outputLine, lineRoom}
 use Rattle.answers.specs.declared.Reply.the-variants as reply
-use Rattle.decimal.specs.Bytes.{lineFeed}
-use Rattle.decimal.specs.Place.{placed, placeAfter}
+use Rattle.script.specs.Bytes.{lineFeed}
+use Rattle.script.specs.Place.{placed, placeAfter}
 use Rattle.script.specs.declared.Asked.{Asked}
 use Rattle.script.specs.Operated.{operated, operatedFirst, putFirst}
-use Rattle.pending.specs.Pending.{noneYet, pushed, pendingLine}
-use Rattle.pending.specs.declared.Pending.{Pending}
+use Rattle.script.specs.Pending.{noneYet, pushed, pendingLine}
+use Rattle.script.specs.declared.buffer.Pending.{Pending}
 use Rattle.progress.specs.Feeding.{pendingOutput, progressOutput, Counted}
 use Rattle.progress.specs.FeedingLaws.{one-byte, one-line, ends-line, line-stands, line-within, line-room, byte-kept, none-kept, counted-start, counted-byte, counted-line}
 use Rattle.progress.specs.Turn.{Done, answered, begun, called, lineDone, lineFor, readDone, unread}

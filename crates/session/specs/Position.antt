@@ -9,8 +9,8 @@ use Rattle.answers.specs.Output.{outputLine, lineRoom}
 use Rattle.answers.specs.declared.Reply.the-variants as reply
 use Rattle.script.specs.declared.Asked.{Asked}
 use Rattle.script.specs.Operated.{operatedFirst}
-use Rattle.pending.specs.Pending.{noneYet}
-use Rattle.pending.specs.declared.Pending.{Pending}
+use Rattle.script.specs.Pending.{noneYet}
+use Rattle.script.specs.declared.buffer.Pending.{Pending}
 use Rattle.progress.specs.Feeding.{pendingOutput, progressOutput, Counted}
 use Rattle.progress.specs.Turn.{sizeAfter}
 use Rattle.progress.specs.declared.Progress.{Progress}

@@ -3,13 +3,13 @@
 use answers::LINE_ROOM;
 use answers::Reply;
 use answers::print_line;
-use pending::Pending;
-use pending::read_pending;
 use progress::Progress;
 use protocol::Answer;
 use protocol::Event;
 use script::Asked;
 use script::Line;
+use script::Pending;
+use script::read_pending;
 ghost use Prim.Native.Nat.{ℕ, _+_};
 ghost use mathlib.Core.Path.{_≡_};
 ghost use mathlib.Core.List.{List};

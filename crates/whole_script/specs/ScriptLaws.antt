@@ -14,7 +14,7 @@ use Rattle.item.specs.Tests.{by-cond}
 use Rattle.answers.specs.Output.{outputLine, lineRoom}
 use Rattle.answers.specs.Printing.{line-length}
 use Rattle.answers.specs.declared.Reply.the-variants as reply
-use Rattle.decimal.specs.Bytes.{lineFeed}
+use Rattle.script.specs.Bytes.{lineFeed}
 use Rattle.record.specs.Layout.{recordSize}
 use Rattle.store.specs.Records.{recordCount}
 use Rattle.progress.specs.Turn.{lineDone}
@@ -24,7 +24,7 @@ use Rattle.progress.specs.FeedingLaws.{program-alike}
 use Rattle.progress.specs.declared.Drill.{Drill}
 use Rattle.progress.specs.declared.Progress.{Progress}
 use Rattle.script.specs.Line.{lineOf}
-use Rattle.pending.specs.Pending.{noneYet}
+use Rattle.script.specs.Pending.{noneYet}
 use Rattle.whole_script.specs.Script.{notAll, ScriptRun}
 
 -- ---- how long the output may be

@@ -5,9 +5,9 @@ use mathlib.Core.Path.{_∙_}
 use lib.ListN.{length-append}
 use borrow.Author.Needs.{needs}
 use Rattle.answers.specs.Output.{tagBytes, itemBytes}
-use Rattle.decimal.specs.Bytes.{space}
-use Rattle.decimal.specs.Writing.{decimal-length}
-use Rattle.decimal.specs.Digits.{decimalOf}
+use Rattle.script.specs.Bytes.{space}
+use Rattle.script.specs.Writing.{decimal-length}
+use Rattle.script.specs.Digits.{decimalOf}
 use Rattle.answers.specs.Printing.{then}
 use Rattle.answers.proofs.put_item.Statement.{statement}
 use Rattle.answers.proofs.put_item.Tie as tie

@@ -3,7 +3,7 @@
 use native.Mathlib.Omega.{arith}
 use mathlib.Core.Path.{_∙_}
 use borrow.Author.Needs.{needs}
-use Rattle.decimal.specs.Writing.{decimal-length}
+use Rattle.script.specs.Writing.{decimal-length}
 use Rattle.answers.specs.Output.{outputLine}
 use Rattle.answers.specs.Printing.{then, number-written, reply-length}
 use Rattle.answers.proofs.put_line.Statement.{statement}

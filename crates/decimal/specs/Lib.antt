@@ -1,6 +1,0 @@
-pub mod Bytes
-pub mod Number
-pub mod Digits
-pub mod Place
-pub mod Reading
-pub mod Writing

@@ -1,2 +1,0 @@
-pub mod Pending
-pub mod Gathered
