@@ -1,5 +1,7 @@
 // The drill's output lines, printed into a lent slice. Everything is proved, no public function has a `requires`, and
 // each gives what one definition of specs/ says.
+mod refusals;
+
 ghost use Prim.Native.Nat.{_+_, _≤_};
 ghost use mathlib.Core.Path.{_≡_};
 ghost use mathlib.Core.List.{_++_};

@@ -1,8 +1,8 @@
--- `refusals::refusal_number` meets its contract: an arm for each refusal.
+-- `answers::refusals::refusal_number` meets its contract: an arm for each refusal.
 use borrow.Author.Needs.{needs}
 use Rattle.protocol.specs.Answer.{refusalNumber}
-use Rattle.refusals.proofs.refusal_number.Statement.{statement}
-use Rattle.refusals.proofs.refusal_number.Tie as tie
+use Rattle.answers.proofs.refusals.refusal_number.Statement.{statement}
+use Rattle.answers.proofs.refusals.refusal_number.Tie as tie
 
 enum-told : tie.Need-enum-told
 enum-told c = search needs
