@@ -4,12 +4,12 @@ use mathlib.Core.Path.{_≡_, sym, subst}
 use mathlib.Core.Bool.{true}
 use mathlib.Core.List.{List}
 use Rattle.script.specs.Operated.{operatedFirst}
-use Rattle.progress.specs.declared.Progress.{Progress}
+use Rattle.drill_state.specs.declared.Progress.{Progress}
 use Rattle.protocol.specs.declared.Answer.{Answer}
 use Rattle.protocol.specs.declared.Node.{Node}
-use Rattle.session.specs.Position.{Reached, Onward}
-use Rattle.session.specs.Steps.{Answers}
-use Rattle.session.specs.declared.Position.{Position}
+use Rattle.drill_state.specs.Position.{Reached, Onward}
+use Rattle.drill_state.specs.Steps.{Answers}
+use Rattle.drill_state.specs.declared.line_reader.Position.{Position}
 
 -- what p asks was carried out over the nodes and the store held there and answered, and reading on leads to p′
 pub record Carried (piece out : List ℕ) (p : Position) (nodes : List Node) (store out′ : List ℕ) (p′ : Position) (nodes′ : List Node) (store′ : List ℕ) : Type 0 where

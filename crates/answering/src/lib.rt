@@ -1,9 +1,9 @@
 // One line of a drill: what it asks is carried out over lent nodes and a lent store, and answered. It decides nothing.
 // Everything is proved, and it has no `requires`.
+use drill_state::Position;
+use drill_state::next_line;
 use lending::operate_first;
 use protocol::Node;
-use session::Position;
-use session::next_line;
 ghost use Rattle.answering.specs.Carried.{Carried};
 
 // Carries out what the last line ended asks, prints the answer, and reads up to the next line that asks something.

@@ -1,11 +1,11 @@
 // The drill (document 01, Drill program): reads a script from standard input, and prints the answer of each line to
 // standard output. What the lines mean and what they print is decided in crates `progress`, `session` and `feeding`; here are the blocks.
+use drill_state::Progress;
+use drill_state::finish;
 use feeding::STORE_ROOM;
 use feeding::feed;
 use libc::STDIN_FILENO;
 use libc::STDOUT_FILENO;
-use progress::Progress;
-use progress::finish;
 
 // Takes a piece of the script and prints its answers, in as many turns as `out` has room for. It ends early only where
 // no count is left for another line. An output that cannot be written is passed over: a program has no exit status.

@@ -5,12 +5,12 @@ use mathlib.Core.Bool.{false}
 use mathlib.Core.List.{List}
 use lib.ListN.{length}
 use Rattle.lines.specs.Taking.{Stops, Takes}
-use Rattle.progress.specs.Feeding.{Taken, Counted, progressOutput}
-use Rattle.progress.specs.declared.Fed.{Fed}
-use Rattle.progress.specs.declared.Progress.{Progress}
+use Rattle.drill_state.specs.Feeding.{Taken, Counted, progressOutput}
+use Rattle.drill_state.specs.declared.Fed.{Fed}
+use Rattle.drill_state.specs.declared.Progress.{Progress}
 use Rattle.protocol.specs.declared.Node.{Node}
-use Rattle.session.specs.Position.{Reached, positionOutput, restOutput, roomTaken}
-use Rattle.session.specs.declared.Position.{Position}
+use Rattle.drill_state.specs.Position.{Reached, positionOutput, restOutput, roomTaken}
+use Rattle.drill_state.specs.declared.line_reader.Position.{Position}
 use Rattle.feeding.specs.Feeds.{Feeds, fedFrom}
 
 -- a position where nothing is asked ends the piece

@@ -2,12 +2,12 @@
 use Prim.Native.Nat.{ℕ}
 use mathlib.Core.List.{List}
 use Rattle.lines.specs.Taking.{Stops}
-use Rattle.progress.specs.Feeding.{Taken, fedAt}
-use Rattle.progress.specs.declared.Fed.{Fed}
-use Rattle.progress.specs.declared.Progress.{Progress}
+use Rattle.drill_state.specs.Feeding.{Taken, fedAt}
+use Rattle.drill_state.specs.declared.Fed.{Fed}
+use Rattle.drill_state.specs.declared.Progress.{Progress}
 use Rattle.protocol.specs.declared.Node.{Node}
-use Rattle.session.specs.Position.{Reached}
-use Rattle.session.specs.declared.Position.{Position}
+use Rattle.drill_state.specs.Position.{Reached}
+use Rattle.drill_state.specs.declared.line_reader.Position.{Position}
 
 -- how far the piece was taken, and where the drill stands then
 unfoldable pub fedFrom : Position → List Node → Fed

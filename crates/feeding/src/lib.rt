@@ -1,15 +1,15 @@
 // A drill's script, which comes in pieces, and what it prints. The nodes are moved once for a piece, and lent for each of
 // its lines. Everything is proved, no public function has a `requires`, and what a piece does is stated by the crate
 // `progress`.
+use drill_state::Drill;
+use drill_state::Fed;
+use drill_state::Position;
+use drill_state::Progress;
+use drill_state::first_line;
 use lines::take_lines;
-use progress::Drill;
-use progress::Fed;
-use progress::Progress;
 use protocol::Node;
-use session::Position;
-use session::first_line;
 ghost use mathlib.Core.Path.{_≡_};
-ghost use Rattle.progress.specs.Feeding.{Taken};
+ghost use Rattle.drill_state.specs.Feeding.{Taken};
 ghost use Rattle.feeding.specs.Feeds.{Feeds, fedFrom};
 
 // The bytes of a local array whose first bytes are a store. The eight after the store are not used: with them it begins

@@ -7,11 +7,11 @@ use mathlib.Core.List.{List}
 use lib.ListN.{length}
 use Rattle.answering.specs.Carried.{Carried}
 use Rattle.protocol.specs.declared.Node.{Node}
-use Rattle.session.specs.Position.{Onward}
-use Rattle.session.specs.declared.Position.{Position}
+use Rattle.drill_state.specs.Position.{Onward}
+use Rattle.drill_state.specs.declared.line_reader.Position.{Position}
 use Rattle.lines.specs.Taking.{Takes}
 
--- where the field of `session::Position` stands that the walk reads
+-- where the field of `drill_state::line_reader::Position` stands that the walk reads
 abbrev pub asksAt : ℕ
 asksAt = 104
 

@@ -6,10 +6,10 @@ use mathlib.Core.Logic.{_⊎_}
 use mathlib.Core.List.{List}
 use lib.ListN.{length}
 use Rattle.answers.specs.Output.{lineRoom}
-use Rattle.progress.specs.declared.Progress.{Progress}
+use Rattle.drill_state.specs.declared.Progress.{Progress}
 use Rattle.protocol.specs.declared.Node.{Node}
-use Rattle.session.specs.Position.{Reached}
-use Rattle.session.specs.declared.Position.{Position}
+use Rattle.drill_state.specs.Position.{Reached}
+use Rattle.drill_state.specs.declared.line_reader.Position.{Position}
 
 -- where nothing is asked, all of the piece was taken, unless there was no room for another line or no count for it
 abbrev pub Stops : List ℕ → List ℕ → Position → Type 0

@@ -1,8 +1,8 @@
 // What the lines of a piece of a drill's script ask of the group, carried out one by one over lent nodes and a lent store.
 // It decides nothing. Everything is proved, and it has no `requires`.
 use answering::answer_line;
+use drill_state::Position;
 use protocol::Node;
-use session::Position;
 ghost use mathlib.Core.Path.{_≡_};
 ghost use mathlib.Core.Bool.{false};
 ghost use Rattle.lines.specs.Taking.{Takes};

@@ -4,8 +4,8 @@ use mathlib.Core.Path.{_≡_}
 use mathlib.Core.List.{List}
 use lib.ListN.{length, take}
 use Rattle.answers.specs.Output.{lineRoom}
-use Rattle.progress.specs.Drill.{drillOutput}
-use Rattle.progress.specs.Feeding.{lineFeeds}
+use Rattle.drill_state.specs.Drill.{drillOutput}
+use Rattle.drill_state.specs.Feeding.{lineFeeds}
 
 -- the largest number of 64 bits: what is given where not all was printed
 abbrev pub notAll : ℕ

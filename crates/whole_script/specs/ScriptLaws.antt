@@ -17,12 +17,12 @@ use Rattle.answers.specs.declared.Reply.the-variants as reply
 use Rattle.script.specs.Bytes.{lineFeed}
 use Rattle.record.specs.Layout.{recordSize}
 use Rattle.store.specs.Records.{recordCount}
-use Rattle.progress.specs.Turn.{lineDone}
-use Rattle.progress.specs.Drill.{lastOutput, outputFrom, drillOutput}
-use Rattle.progress.specs.Feeding.{atStart, pendingOutput, progressOutput, lineFeeds, Taken}
-use Rattle.progress.specs.FeedingLaws.{program-alike}
-use Rattle.progress.specs.declared.Drill.{Drill}
-use Rattle.progress.specs.declared.Progress.{Progress}
+use Rattle.drill_state.specs.Turn.{lineDone}
+use Rattle.drill_state.specs.Drill.{lastOutput, outputFrom, drillOutput}
+use Rattle.drill_state.specs.Feeding.{atStart, pendingOutput, progressOutput, lineFeeds, Taken}
+use Rattle.drill_state.specs.FeedingLaws.{program-alike}
+use Rattle.drill_state.specs.declared.Drill.{Drill}
+use Rattle.drill_state.specs.declared.Progress.{Progress}
 use Rattle.script.specs.Line.{lineOf}
 use Rattle.script.specs.Pending.{noneYet}
 use Rattle.whole_script.specs.Script.{notAll, ScriptRun}

@@ -48,25 +48,25 @@ use Rattle.script.specs.Operated.{operatedFirst}
 use Rattle.script.proofs.Asked as Q
 use Rattle.script.proofs.Asked.Laws as Q′
 use Rattle.table.proofs.Given.{Gives}
-use Rattle.session.specs.declared.Position.{Position}
-use Rattle.session.specs.Steps.{Answers}
-use Rattle.session.proofs.Position as P
-use Rattle.session.proofs.Position.Laws as P′
+use Rattle.drill_state.specs.declared.line_reader.Position.{Position}
+use Rattle.drill_state.specs.Steps.{Answers}
+use Rattle.drill_state.proofs.line_reader.Position as P
+use Rattle.drill_state.proofs.line_reader.Position.Laws as P′
 use Rattle.answering.specs.Carried.{Carried, carried}
 use Rattle.lending.proofs.operate_first as operates
 use Rattle.lending.proofs.operate_first.Symbol as operates-def
 use Rattle.lending.proofs.operate_first.Symbol.{name as #operates}
 use Rattle.lending.proofs.operate_first.Met as operates-thm
-use Rattle.session.proofs.next_line as nexts
-use Rattle.session.proofs.next_line.Symbol as nexts-def
-use Rattle.session.proofs.next_line.Symbol.{name as #nexts}
-use Rattle.session.proofs.next_line.Met as nexts-thm
+use Rattle.drill_state.proofs.next_line as nexts
+use Rattle.drill_state.proofs.next_line.Symbol as nexts-def
+use Rattle.drill_state.proofs.next_line.Symbol.{name as #nexts}
+use Rattle.drill_state.proofs.next_line.Met as nexts-thm
 use Rattle.answering.proofs.answer_line.Key.{name as #own}
 use Rattle.answering.proofs.answer_line as own
 use Rattle.answering.proofs.answer_line.Statement as stated
 use Rattle.answering.proofs.answer_line.Code as code
 
--- where the field of `session::Position` stands that the walk reads
+-- where the field of `drill_state::line_reader::Position` stands that the walk reads
 abbrev askedAt : ℕ
 askedAt = 112
 
@@ -240,4 +240,4 @@ answer-line-spec 𝓤 H 𝓜 𝓖 𝓡 =
     (tables 𝓤 H 𝓜 𝓡 code.env .C) (tables 𝓤 H 𝓜 𝓡 code.env .Λ) #own code.function (code.unfolded 𝓤 H 𝓜 𝓡)
     (own-meets 𝓤 H (𝓖 .A) (givenOf 𝓤 H 𝓜 𝓖) (𝓜 .mem) (𝓡 .run) (tablesOf 𝓤 H 𝓜 (tables 𝓤 H 𝓜 𝓡 code.env))
     (cited 𝓤 H (Operate 𝓤 H (𝓖 .A) (𝓜 .mem) (𝓡 .run)) 𝓜 𝓡 code.env #operates operates-def.routine code.calls-lending·operate-first (operates-thm.met 𝓤 H 𝓜 𝓖 𝓡))
-    (cited 𝓤 H (Next 𝓤 H (𝓖 .A) (𝓜 .mem) (𝓡 .run)) 𝓜 𝓡 code.env #nexts nexts-def.routine code.calls-session·next-line (nexts-thm.met 𝓤 H 𝓜 𝓖 𝓡)))
+    (cited 𝓤 H (Next 𝓤 H (𝓖 .A) (𝓜 .mem) (𝓡 .run)) 𝓜 𝓡 code.env #nexts nexts-def.routine code.calls-drill-state·next-line (nexts-thm.met 𝓤 H 𝓜 𝓖 𝓡)))

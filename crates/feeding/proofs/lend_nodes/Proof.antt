@@ -49,13 +49,13 @@ use denote.Exit.{yes}
 use Rattle.protocol.specs.declared.Node.{Node}
 use Rattle.protocol.proofs.Node as T
 use Rattle.protocol.proofs.Node.Laws as T′
-use Rattle.progress.specs.declared.Fed.{Fed}
-use Rattle.progress.proofs.Fed as F
-use Rattle.progress.proofs.Fed.Laws as F′
+use Rattle.drill_state.specs.declared.Fed.{Fed}
+use Rattle.drill_state.proofs.Fed as F
+use Rattle.drill_state.proofs.Fed.Laws as F′
 use Rattle.lending.proofs.Local.{taken-apart, put-together}
-use Rattle.session.specs.declared.Position.{Position}
-use Rattle.session.proofs.Position as P
-use Rattle.session.proofs.Position.Laws as P′
+use Rattle.drill_state.specs.declared.line_reader.Position.{Position}
+use Rattle.drill_state.proofs.line_reader.Position as P
+use Rattle.drill_state.proofs.line_reader.Position.Laws as P′
 use Rattle.table.proofs.Size.{nodeSize}
 use Rattle.table.proofs.Walk.{ty-of}
 use Rattle.lines.specs.Taking.{Takes}

@@ -48,9 +48,9 @@ use Rattle.protocol.specs.declared.Node.{Node}
 use Rattle.protocol.proofs.Node as T
 use Rattle.protocol.proofs.Node.Laws as T′
 use Rattle.answering.specs.Carried.{Carried}
-use Rattle.session.specs.declared.Position.{Position}
-use Rattle.session.proofs.Position as P
-use Rattle.session.proofs.Position.Laws as P′
+use Rattle.drill_state.specs.declared.line_reader.Position.{Position}
+use Rattle.drill_state.proofs.line_reader.Position as P
+use Rattle.drill_state.proofs.line_reader.Position.Laws as P′
 use Rattle.table.proofs.Again.{LentAgain, lends-again, comes-back}
 use Rattle.table.proofs.Walk.{env-of, ty-of, after, holds, fails}
 use Rattle.lines.specs.Taking.{Takes}

@@ -1,4 +1,0 @@
-pub mod Turn
-pub mod Drill
-pub mod Feeding
-pub mod FeedingLaws
