@@ -1,9 +1,9 @@
 // The drill (document 01, Drill program): reads a script from standard input, and prints the answer of each line to
 // standard output. What the lines mean and what they print is decided in crates `progress`, `session` and `feeding`; here are the blocks.
+use drill_run::STORE_ROOM;
+use drill_run::feed;
 use drill_state::Progress;
 use drill_state::finish;
-use feeding::STORE_ROOM;
-use feeding::feed;
 use libc::STDIN_FILENO;
 use libc::STDOUT_FILENO;
 

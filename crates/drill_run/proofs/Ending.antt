@@ -4,14 +4,14 @@ use mathlib.Core.Path.{_≡_, sym, subst, _∙_}
 use mathlib.Core.Bool.{false}
 use mathlib.Core.List.{List}
 use lib.ListN.{length}
-use Rattle.lines.specs.Taking.{Stops, Takes}
+use Rattle.drill_run.specs.Taking.{Stops, Takes}
 use Rattle.drill_state.specs.Feeding.{Taken, Counted, progressOutput}
 use Rattle.drill_state.specs.declared.Fed.{Fed}
 use Rattle.drill_state.specs.declared.Progress.{Progress}
 use Rattle.protocol.specs.declared.Node.{Node}
 use Rattle.drill_state.specs.Position.{Reached, positionOutput, restOutput, roomTaken}
 use Rattle.drill_state.specs.declared.line_reader.Position.{Position}
-use Rattle.feeding.specs.Feeds.{Feeds, fedFrom}
+use Rattle.drill_run.specs.Feeds.{Feeds, fedFrom}
 
 -- a position where nothing is asked ends the piece
 pub fed-taken : (piece : List ℕ) (before : Progress) (sb out : List ℕ) (p : Position) (nodes : List Node) (store : List ℕ) → p .asks ≡ false → Reached piece before sb out p nodes store → Stops piece out p

@@ -1,4 +1,4 @@
--- `lines::take_lines` meets its contract: a walk of its MIR, by hand, with a loop whose turn lends nodes, store and `out` to `answer_line`.
+-- `drill_run::lines::take_lines` meets its contract: a walk of its MIR, by hand, with a loop whose turn lends nodes, store and `out` to `answer_line`.
 -- The invariant: what was reached before the loop leads to what is reached here, with the nodes, the store and the bytes printed as they are here.
 -- All that the proof knows of the callees is that they meet their contracts.
 -- Assumes nothing.
@@ -47,23 +47,23 @@ use denote.Exit.{yes}
 use Rattle.protocol.specs.declared.Node.{Node}
 use Rattle.protocol.proofs.Node as T
 use Rattle.protocol.proofs.Node.Laws as T′
-use Rattle.answering.specs.Carried.{Carried}
+use Rattle.drill_run.specs.Carried.{Carried}
 use Rattle.drill_state.specs.declared.line_reader.Position.{Position}
 use Rattle.drill_state.proofs.line_reader.Position as P
 use Rattle.drill_state.proofs.line_reader.Position.Laws as P′
 use Rattle.table.proofs.Again.{LentAgain, lends-again, comes-back}
 use Rattle.table.proofs.Walk.{env-of, ty-of, after, holds, fails}
-use Rattle.lines.specs.Taking.{Takes}
-use Rattle.lines.proofs.Turns.{asksAt, left, nearer, turned}
-use Rattle.answering.proofs.answer_line as lines
-use Rattle.answering.proofs.answer_line.Symbol as lines-def
-use Rattle.answering.proofs.answer_line.Symbol.{name as #lines}
-use Rattle.answering.proofs.answer_line.Met as lines-thm
-use Rattle.lines.proofs.take_lines.Key.{name as #own}
-use Rattle.lines.proofs.take_lines as own
-use Rattle.lines.proofs.take_lines.Statement as stated
-use Rattle.lines.proofs.take_lines.Code as code
-use Rattle.lines.proofs.take_lines.Code.Mir as body
+use Rattle.drill_run.specs.Taking.{Takes}
+use Rattle.drill_run.proofs.Turns.{asksAt, left, nearer, turned}
+use Rattle.drill_run.proofs.answer.answer_line as lines
+use Rattle.drill_run.proofs.answer.answer_line.Symbol as lines-def
+use Rattle.drill_run.proofs.answer.answer_line.Symbol.{name as #lines}
+use Rattle.drill_run.proofs.answer.answer_line.Met as lines-thm
+use Rattle.drill_run.proofs.lines.take_lines.Key.{name as #own}
+use Rattle.drill_run.proofs.lines.take_lines as own
+use Rattle.drill_run.proofs.lines.take_lines.Statement as stated
+use Rattle.drill_run.proofs.lines.take_lines.Code as code
+use Rattle.drill_run.proofs.lines.take_lines.Code.Mir as body
 
 abbrev stayed : Stays (own.ended .signature .params) (own.ended .kept)
 stayed = (stay-none-slice (0 ∷ []) tt (plain (λ _. u8)) yes, (stay-none (λ _. P.the-row) yes, (stay-slice (1 ∷ []) tt (plain (λ _. T.the-row)), (stay-slice (2 ∷ []) tt (plain (λ _. u8)), (stay-slice (3 ∷ []) tt (plain (λ _. u8)), tt)))))
@@ -311,4 +311,4 @@ take-lines-spec 𝓤 H 𝓜 𝓖 𝓡 =
     entered 𝓤 H (tripleOf 𝓤 H (𝓖 .A) own.signature (own.spec 𝓤 H (𝓖 .A) (𝓜 .mem) (𝓡 .run)))
     (tables 𝓤 H 𝓜 𝓡 code.env .C) (tables 𝓤 H 𝓜 𝓡 code.env .Λ) #own code.function (code.unfolded 𝓤 H 𝓜 𝓡)
     (own-meets 𝓤 H (𝓖 .A) (givenOf 𝓤 H 𝓜 𝓖) (𝓜 .mem) (𝓡 .run) (tablesOf 𝓤 H 𝓜 (tables 𝓤 H 𝓜 𝓡 code.env))
-    (cited 𝓤 H (Line 𝓤 H (𝓖 .A) (𝓜 .mem) (𝓡 .run)) 𝓜 𝓡 code.env #lines lines-def.routine code.calls-answering·answer-line (lines-thm.met 𝓤 H 𝓜 𝓖 𝓡)))
+    (cited 𝓤 H (Line 𝓤 H (𝓖 .A) (𝓜 .mem) (𝓡 .run)) 𝓜 𝓡 code.env #lines lines-def.routine code.calls-drill-run·answer·answer-line (lines-thm.met 𝓤 H 𝓜 𝓖 𝓡)))

@@ -5,11 +5,11 @@ use mathlib.Core.Path.{_≡_, refl}
 use mathlib.Core.Bool.{Bool, true, false, cond}
 use mathlib.Core.List.{List}
 use lib.ListN.{length}
-use Rattle.answering.specs.Carried.{Carried}
+use Rattle.drill_run.specs.Carried.{Carried}
 use Rattle.protocol.specs.declared.Node.{Node}
 use Rattle.drill_state.specs.Position.{Onward}
 use Rattle.drill_state.specs.declared.line_reader.Position.{Position}
-use Rattle.lines.specs.Taking.{Takes}
+use Rattle.drill_run.specs.Taking.{Takes}
 
 -- where the field of `drill_state::line_reader::Position` stands that the walk reads
 abbrev pub asksAt : ℕ

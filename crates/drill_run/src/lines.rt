@@ -1,11 +1,11 @@
 // What the lines of a piece of a drill's script ask of the group, carried out one by one over lent nodes and a lent store.
 // It decides nothing. Everything is proved, and it has no `requires`.
-use answering::answer_line;
+use crate::answer::answer_line;
 use drill_state::Position;
 use protocol::Node;
 ghost use mathlib.Core.Path.{_≡_};
 ghost use mathlib.Core.Bool.{false};
-ghost use Rattle.lines.specs.Taking.{Takes};
+ghost use Rattle.drill_run.specs.Taking.{Takes};
 
 // Carries out what the lines of a piece ask, from the first such line on: each is answered before the next is read.
 pub fn take_lines(

@@ -1,4 +1,4 @@
--- `feeding::lend_nodes` meets its contract: a walk of its MIR, by hand. A local array is lent to `take_lines` as a slice, and is whole again after the call.
+-- `drill_run::lend_nodes` meets its contract: a walk of its MIR, by hand. A local array is lent to `take_lines` as a slice, and is whole again after the call.
 -- All that the proof knows of the callees is that they meet their contracts.
 -- Assumes nothing.
 use mathlib.Core.Path.{_≡_, refl, sym, _∙_, ap, subst}
@@ -58,21 +58,21 @@ use Rattle.drill_state.proofs.line_reader.Position as P
 use Rattle.drill_state.proofs.line_reader.Position.Laws as P′
 use Rattle.table.proofs.Size.{nodeSize}
 use Rattle.table.proofs.Walk.{ty-of}
-use Rattle.lines.specs.Taking.{Takes}
-use Rattle.feeding.specs.Feeds.{Feeds, fedFrom}
-use Rattle.feeding.proofs.Ending.{fed-feeds}
-use Rattle.lines.proofs.take_lines as takes
-use Rattle.lines.proofs.take_lines.Symbol as takes-def
-use Rattle.lines.proofs.take_lines.Symbol.{name as #takes}
-use Rattle.lines.proofs.take_lines.Met as takes-thm
-use Rattle.feeding.proofs.fed as mades
-use Rattle.feeding.proofs.fed.Symbol as mades-def
-use Rattle.feeding.proofs.fed.Symbol.{name as #mades}
-use Rattle.feeding.proofs.fed.Met as mades-thm
-use Rattle.feeding.proofs.lend_nodes.Key.{name as #own}
-use Rattle.feeding.proofs.lend_nodes as own
-use Rattle.feeding.proofs.lend_nodes.Statement as stated
-use Rattle.feeding.proofs.lend_nodes.Code as code
+use Rattle.drill_run.specs.Taking.{Takes}
+use Rattle.drill_run.specs.Feeds.{Feeds, fedFrom}
+use Rattle.drill_run.proofs.Ending.{fed-feeds}
+use Rattle.drill_run.proofs.lines.take_lines as takes
+use Rattle.drill_run.proofs.lines.take_lines.Symbol as takes-def
+use Rattle.drill_run.proofs.lines.take_lines.Symbol.{name as #takes}
+use Rattle.drill_run.proofs.lines.take_lines.Met as takes-thm
+use Rattle.drill_run.proofs.fed as mades
+use Rattle.drill_run.proofs.fed.Symbol as mades-def
+use Rattle.drill_run.proofs.fed.Symbol.{name as #mades}
+use Rattle.drill_run.proofs.fed.Met as mades-thm
+use Rattle.drill_run.proofs.lend_nodes.Key.{name as #own}
+use Rattle.drill_run.proofs.lend_nodes as own
+use Rattle.drill_run.proofs.lend_nodes.Statement as stated
+use Rattle.drill_run.proofs.lend_nodes.Code as code
 
 abbrev AR : RattleType
 AR = Array T.the-row 15
@@ -256,5 +256,5 @@ lend-nodes-spec 𝓤 H 𝓜 𝓖 𝓡 =
     entered 𝓤 H (tripleOf 𝓤 H (𝓖 .A) own.signature (own.spec 𝓤 H (𝓖 .A) (𝓜 .mem) (𝓡 .run)))
     (tables 𝓤 H 𝓜 𝓡 code.env .C) (tables 𝓤 H 𝓜 𝓡 code.env .Λ) #own code.function (code.unfolded 𝓤 H 𝓜 𝓡)
     (own-meets 𝓤 H (𝓖 .A) (givenOf 𝓤 H 𝓜 𝓖) (𝓜 .mem) (𝓡 .run) (tablesOf 𝓤 H 𝓜 (tables 𝓤 H 𝓜 𝓡 code.env))
-    (cited 𝓤 H (Take 𝓤 H (𝓖 .A) (𝓜 .mem) (𝓡 .run)) 𝓜 𝓡 code.env #takes takes-def.routine code.calls-lines·take-lines (takes-thm.met 𝓤 H 𝓜 𝓖 𝓡))
-    (cited 𝓤 H (Made 𝓤 H (𝓖 .A) (𝓜 .mem) (𝓡 .run)) 𝓜 𝓡 code.env #mades mades-def.routine code.calls-feeding·fed (mades-thm.met 𝓤 H 𝓜 𝓖 𝓡)))
+    (cited 𝓤 H (Take 𝓤 H (𝓖 .A) (𝓜 .mem) (𝓡 .run)) 𝓜 𝓡 code.env #takes takes-def.routine code.calls-drill-run·lines·take-lines (takes-thm.met 𝓤 H 𝓜 𝓖 𝓡))
+    (cited 𝓤 H (Made 𝓤 H (𝓖 .A) (𝓜 .mem) (𝓡 .run)) 𝓜 𝓡 code.env #mades mades-def.routine code.calls-drill-run·fed (mades-thm.met 𝓤 H 𝓜 𝓖 𝓡)))

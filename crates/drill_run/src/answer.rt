@@ -4,7 +4,7 @@ use drill_state::Position;
 use drill_state::next_line;
 use lending::operate_first;
 use protocol::Node;
-ghost use Rattle.answering.specs.Carried.{Carried};
+ghost use Rattle.drill_run.specs.Carried.{Carried};
 
 // Carries out what the last line ended asks, prints the answer, and reads up to the next line that asks something.
 pub fn answer_line(

@@ -1,7 +1,7 @@
 -- What lending the nodes to the lines of a piece gives.
 use Prim.Native.Nat.{ℕ}
 use mathlib.Core.List.{List}
-use Rattle.lines.specs.Taking.{Stops}
+use Rattle.drill_run.specs.Taking.{Stops}
 use Rattle.drill_state.specs.Feeding.{Taken, fedAt}
 use Rattle.drill_state.specs.declared.Fed.{Fed}
 use Rattle.drill_state.specs.declared.Progress.{Progress}

@@ -1,9 +1,9 @@
--- `feeding::feed`: the piece begins where the drill stands, and its lines are taken from there.
+-- `drill_run::feed`: the piece begins where the drill stands, and its lines are taken from there.
 use Prim.Native.Nat.{ℕ}
 use native.Mathlib.Omega.{arith}
 use borrow.Author.Needs.{needs}
-use Rattle.feeding.proofs.feed.Statement.{statement}
-use Rattle.feeding.proofs.feed.Tie as tie
+use Rattle.drill_run.proofs.feed.Statement.{statement}
+use Rattle.drill_run.proofs.feed.Tie as tie
 
 first-line-requires : tie.Need-first-line-requires
 first-line-requires c κs = search needs

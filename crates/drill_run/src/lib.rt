@@ -1,6 +1,7 @@
-// A drill's script, which comes in pieces, and what it prints. The nodes are moved once for a piece, and lent for each of
-// its lines. Everything is proved, no public function has a `requires`, and what a piece does is stated by the crate
-// `progress`.
+// A piece of a script run over lent nodes and store.
+mod answer;
+mod lines;
+
 use drill_state::Drill;
 use drill_state::Fed;
 use drill_state::Position;
@@ -10,7 +11,7 @@ use lines::take_lines;
 use protocol::Node;
 ghost use mathlib.Core.Path.{_≡_};
 ghost use Rattle.drill_state.specs.Feeding.{Taken};
-ghost use Rattle.feeding.specs.Feeds.{Feeds, fedFrom};
+ghost use Rattle.drill_run.specs.Feeds.{Feeds, fedFrom};
 
 // The bytes of a local array whose first bytes are a store. The eight after the store are not used: with them it begins
 // at a multiple of sixteen, as functions on x86-64 begin their frames, and no read of its scan crosses a line of the

@@ -1,4 +1,4 @@
--- `answering::answer_line` meets its contract: a walk of its MIR, by hand. Nodes and store are given for good to `operate_first`, and `out` to `next_line`.
+-- `drill_run::answer::answer_line` meets its contract: a walk of its MIR, by hand. Nodes and store are given for good to `operate_first`, and `out` to `next_line`.
 -- All that the proof knows of the callees is that they meet their contracts.
 -- Assumes nothing.
 use mathlib.Core.Path.{_≡_, refl}
@@ -52,7 +52,7 @@ use Rattle.drill_state.specs.declared.line_reader.Position.{Position}
 use Rattle.drill_state.specs.Steps.{Answers}
 use Rattle.drill_state.proofs.line_reader.Position as P
 use Rattle.drill_state.proofs.line_reader.Position.Laws as P′
-use Rattle.answering.specs.Carried.{Carried, carried}
+use Rattle.drill_run.specs.Carried.{Carried, carried}
 use Rattle.lending.proofs.operate_first as operates
 use Rattle.lending.proofs.operate_first.Symbol as operates-def
 use Rattle.lending.proofs.operate_first.Symbol.{name as #operates}
@@ -61,10 +61,10 @@ use Rattle.drill_state.proofs.next_line as nexts
 use Rattle.drill_state.proofs.next_line.Symbol as nexts-def
 use Rattle.drill_state.proofs.next_line.Symbol.{name as #nexts}
 use Rattle.drill_state.proofs.next_line.Met as nexts-thm
-use Rattle.answering.proofs.answer_line.Key.{name as #own}
-use Rattle.answering.proofs.answer_line as own
-use Rattle.answering.proofs.answer_line.Statement as stated
-use Rattle.answering.proofs.answer_line.Code as code
+use Rattle.drill_run.proofs.answer.answer_line.Key.{name as #own}
+use Rattle.drill_run.proofs.answer.answer_line as own
+use Rattle.drill_run.proofs.answer.answer_line.Statement as stated
+use Rattle.drill_run.proofs.answer.answer_line.Code as code
 
 -- where the field of `drill_state::line_reader::Position` stands that the walk reads
 abbrev askedAt : ℕ
