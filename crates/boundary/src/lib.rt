@@ -2,7 +2,7 @@
 // over as a pointer and a length. Everything is proved, no function has a `requires`, and each gives what the
 // definitions of specs/ say, whatever is handed in.
 ghost use mathlib.Core.Path.{_≡_};
-ghost use Rattle.record_numbers.specs.Records.{bytesWritten, mayRead, mayWrite, numbersRead};
+ghost use Rattle.record_words.specs.Records.{bytesWritten, mayRead, mayWrite, numbersRead};
 ghost use Rattle.whole_script.specs.Script.{ScriptRun};
 ghost use Rattle.boundary.specs.Sound.{soundFor};
 
@@ -41,7 +41,7 @@ pub extern "C" fn yagvost_read_record(
 ) -> bool
     ensures { λ r. ⌜ (r ≡ mayRead (now (bytes .entry)) «record» n (now (numbers .entry))) × (now (numbers .exit) ≡ numbersRead (now (bytes .entry)) «record» n (now (numbers .entry))) ⌝ }
 {
-    record_numbers::read_record(bytes, record, n, numbers)
+    record_words::read_record(bytes, record, n, numbers)
 }
 
 // Record `record` of the bytes becomes what the numbers say in a group of `n`, in the same order. Where the record is
@@ -56,5 +56,5 @@ pub extern "C" fn yagvost_write_record(
 ) -> bool
     ensures { λ r. ⌜ (r ≡ mayWrite (now (bytes .entry)) «record» n (now (numbers .entry))) × (now (bytes .exit) ≡ bytesWritten (now (bytes .entry)) «record» n (now (numbers .entry))) ⌝ }
 {
-    record_numbers::write_record(bytes, record, n, numbers)
+    record_words::write_record(bytes, record, n, numbers)
 }
