@@ -7,9 +7,9 @@ use mathlib.Core.List.{List}
 use lib.Dec.{eqb, ltb}
 use lib.ListN.{length}
 use borrow.Author.Tests.{ltb-true, ltb-false, lt-ltb, le-ltb}
-use Rattle.chains.specs.Leads.{inboxList}
-use Rattle.chains.specs.Message.{MessageTo, inbox-message, message-inbox}
-use Rattle.chains.specs.Times.{timesOn, stands-on, stands-where}
+use Rattle.store_laws.specs.Leads.{inboxList}
+use Rattle.store_laws.specs.Message.{MessageTo, inbox-message, message-inbox}
+use Rattle.store_laws.specs.Times.{timesOn, stands-on, stands-where}
 use Rattle.endian.specs.PartLaws.{by-order}
 use Rattle.item.specs.Maxima.{maxNodes, validSize}
 use Rattle.item.specs.Tests.{by-cond}

@@ -23,13 +23,13 @@ use Rattle.store.specs.Head.{firstFree, groupSize}
 use Rattle.store.specs.Locality.{put-local, length-empty, empty-reads}
 use Rattle.store.specs.Records.{recordCount, recordIn}
 use Rattle.store.specs.Sound.{freeCount, messageIn}
-use Rattle.chains.specs.Empty.{EmptyDone, numbersFrom, length-numbers, set-up-done}
-use Rattle.chains.specs.Leads.{freeList}
-use Rattle.chains.specs.Message.{message-head, message-read}
-use Rattle.chains.specs.OnChains.{sound-valid, free-count}
-use Rattle.chains.specs.Put.{PutDone, put-done, some-free}
-use Rattle.chains.specs.Sound.{Sound}
-use Rattle.chains.specs.Times.{by-same}
+use Rattle.store_laws.specs.Empty.{EmptyDone, numbersFrom, length-numbers, set-up-done}
+use Rattle.store_laws.specs.Leads.{freeList}
+use Rattle.store_laws.specs.Message.{message-head, message-read}
+use Rattle.store_laws.specs.OnChains.{sound-valid, free-count}
+use Rattle.store_laws.specs.Put.{PutDone, put-done, some-free}
+use Rattle.store_laws.specs.Sound.{Sound}
+use Rattle.store_laws.specs.Times.{by-same}
 use Rattle.protocol.specs.Network.{Packet}
 use Rattle.operations.proofs.Inbox as inbox
 use Rattle.examples.proofs.Fits.{fits, goes, read-rows}

@@ -6,12 +6,12 @@ use mathlib.Core.Bool.{true, false, not, false≢true}
 use mathlib.Core.List.{List, [], _++_, append-nil}
 use lib.Dec.{ltb}
 use borrow.Author.Tests.{ltb-true, ltb-false}
-use Rattle.chains.specs.Empty.{set-up-done}
-use Rattle.chains.specs.Held.{heldOn, records-counted as counted-of}
-use Rattle.chains.specs.Leads.{freeList, inboxList}
-use Rattle.chains.specs.Message.{message-inbox}
-use Rattle.chains.specs.Sound.{Sound, store-sound}
-use Rattle.chains.specs.Times.{times}
+use Rattle.store_laws.specs.Empty.{set-up-done}
+use Rattle.store_laws.specs.Held.{heldOn, records-counted as counted-of}
+use Rattle.store_laws.specs.Leads.{freeList, inboxList}
+use Rattle.store_laws.specs.Message.{message-inbox}
+use Rattle.store_laws.specs.Sound.{Sound, store-sound}
+use Rattle.store_laws.specs.Times.{times}
 use Rattle.item.specs.Tests.{by-cond}
 use Rattle.item.specs.declared.Item.{Item}
 use Rattle.record.specs.Layout.{rowsOf, heldRows}

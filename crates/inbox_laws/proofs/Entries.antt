@@ -8,15 +8,15 @@ use mathlib.Core.List.{List, [], _∷_, _++_, map, map-append, append-assoc, app
 use lib.Dec.{eqb}
 use lib.ListN.{getD, drop}
 use borrow.Author.Tests.{eq-eqb, ne-eqb}
-use Rattle.chains.specs.Drop.{DropDone, drop-done}
-use Rattle.chains.specs.Leads.{freeList, inboxList}
-use Rattle.chains.specs.Message.{MessageTo, inbox-message, message-free, message-head}
-use Rattle.chains.specs.OnChains.{OnChains, sound-chains}
-use Rattle.chains.specs.Put.{ForGroup, PutDone, put-done, some-free}
-use Rattle.chains.specs.PutEach.{AllForGroup}
-use Rattle.chains.specs.Relinked.{inbox-once, inbox-only}
-use Rattle.chains.specs.Sound.{Sound}
-use Rattle.chains.specs.Times.{times, without, by-same, stands-head, stands-tail, times-head, times-other}
+use Rattle.store_laws.specs.Drop.{DropDone, drop-done}
+use Rattle.store_laws.specs.Leads.{freeList, inboxList}
+use Rattle.store_laws.specs.Message.{MessageTo, inbox-message, message-free, message-head}
+use Rattle.store_laws.specs.OnChains.{OnChains, sound-chains}
+use Rattle.store_laws.specs.Put.{ForGroup, PutDone, put-done, some-free}
+use Rattle.store_laws.specs.PutEach.{AllForGroup}
+use Rattle.store_laws.specs.Relinked.{inbox-once, inbox-only}
+use Rattle.store_laws.specs.Sound.{Sound}
+use Rattle.store_laws.specs.Times.{times, without, by-same, stands-head, stands-tail, times-head, times-other}
 use Rattle.item.specs.declared.Item.{Item}
 use Rattle.record.specs.Layout.{rowsOf, heldRows}
 use Rattle.message.specs.declared.Envelope.{Envelope}

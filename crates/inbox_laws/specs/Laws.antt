@@ -5,9 +5,9 @@ use mathlib.Core.Path.{_≡_}
 use mathlib.Core.Bool.{true}
 use mathlib.Core.List.{List, [], _++_}
 use lib.ListN.{drop}
-use Rattle.chains.specs.Empty.{numbersFrom}
-use Rattle.chains.specs.Held.{heldOn}
-use Rattle.chains.specs.Leads.{freeList, inboxList}
+use Rattle.store_laws.specs.Empty.{numbersFrom}
+use Rattle.store_laws.specs.Held.{heldOn}
+use Rattle.store_laws.specs.Leads.{freeList, inboxList}
 use Rattle.store.specs.Change.{countOutgoing}
 use Rattle.store.specs.Records.{recordCount, recordsOf}
 use Rattle.store.specs.Sound.{freeCount}

@@ -9,7 +9,7 @@ use mathlib.Core.List.{List, List·Memᴰ, List·Memᴰ·head, List·Memᴰ·tai
 use lib.ListN.{length, getD, set}
 use lib.Seq.{getD-set-same, getD-set-other}
 use borrow.Author.Tests.{le-ltb}
-use Rattle.chains.specs.Sound.{store-sound}
+use Rattle.store_laws.specs.Sound.{store-sound}
 use Rattle.item.specs.Maxima.{maxNodes}
 use Rattle.record.specs.Layout.{rowsOf}
 use Rattle.message.specs.declared.Envelope.{Envelope}

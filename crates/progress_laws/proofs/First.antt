@@ -9,7 +9,7 @@ use mathlib.Core.List.{List}
 use lib.ListN.{getD}
 use lib.Seq.{getD-set-same}
 use borrow.Author.Tests.{lt-ltb}
-use Rattle.chains.specs.Empty.{set-up-done}
+use Rattle.store_laws.specs.Empty.{set-up-done}
 use Rattle.item.specs.Counter.{indexBelow, indexAtLargest, attemptAtLargest, nextIndex}
 use Rattle.item.specs.Item.{ranksBelow, zeroItem}
 use Rattle.item.specs.Maxima.{maxNodes, tagSize}

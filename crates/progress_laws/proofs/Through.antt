@@ -7,7 +7,7 @@ use mathlib.Core.Bool.{true, false}
 use mathlib.Core.List.{List, [], _∷_, _++_, map}
 use lib.ListN.{length}
 use borrow.Author.Tests.{lt-ltb}
-use Rattle.chains.specs.Sound.{size-least}
+use Rattle.store_laws.specs.Sound.{size-least}
 use Rattle.item.specs.Maxima.{maxNodes, validSize}
 use Rattle.item.specs.Tests.{and-both}
 use Rattle.item.specs.declared.counters.Attempt.{Attempt}

@@ -25,13 +25,13 @@ use Rattle.store.specs.Head.{groupSize}
 use Rattle.store.specs.Locality.{put-each-local, drop-local}
 use Rattle.store.specs.Records.{rightLength, recordsOf, joined, recordIn}
 use Rattle.store.specs.Sound.{soundRecords, soundStore, freeCount, messageIn}
-use Rattle.chains.specs.Drop.{DropDone, drop-done}
-use Rattle.chains.specs.Message.{message-inbox}
-use Rattle.chains.specs.OnChains.{sound-valid}
-use Rattle.chains.specs.Put.{ForGroup}
-use Rattle.chains.specs.PutEach.{AllForGroup, put-each-done}
-use Rattle.chains.specs.Sound.{store-right, store-sound}
-use Rattle.chains.specs.Widths.{for-group}
+use Rattle.store_laws.specs.Drop.{DropDone, drop-done}
+use Rattle.store_laws.specs.Message.{message-inbox}
+use Rattle.store_laws.specs.OnChains.{sound-valid}
+use Rattle.store_laws.specs.Put.{ForGroup}
+use Rattle.store_laws.specs.PutEach.{AllForGroup, put-each-done}
+use Rattle.store_laws.specs.Sound.{store-right, store-sound}
+use Rattle.store_laws.specs.Widths.{for-group}
 use Rattle.operations.specs.Claim.{TagFits}
 use Rattle.protocol.specs.Deliver.{deliverStep}
 use Rattle.operations.specs.Operation.{refuse, sentBy, carriedOut, atNode, dropped, delivered, onSound, onRecords, perform}

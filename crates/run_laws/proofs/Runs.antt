@@ -15,7 +15,7 @@ use Rattle.store.specs.Joined.{records-joined}
 use Rattle.store.specs.Locality.{length-empty, empty-sized}
 use Rattle.store.specs.Records.{recordCount, recordsOf, joined}
 use Rattle.store.specs.Sound.{soundRecords, soundStore}
-use Rattle.chains.specs.Empty.{set-up-done}
+use Rattle.store_laws.specs.Empty.{set-up-done}
 use Rattle.protocol.specs.Answer.{refusalNumber}
 use Rattle.operations.specs.Claim.{TagsFit}
 use Rattle.protocol.specs.Node.{blankNode, freshNode, writeEnded, countPeers}

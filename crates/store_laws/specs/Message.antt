@@ -22,9 +22,9 @@ use Rattle.store.specs.Records.{recordIn}
 use Rattle.store.specs.Head.{groupSize, firstOf}
 use Rattle.store.specs.Sound.{addressedTo, belongsTo, messageIn, soundRecords}
 use Rattle.store.specs.Bytes.{kind-none, nothing-none}
-use Rattle.chains.specs.Times.{times, by-same, stands-where}
-use Rattle.chains.specs.Leads.{IsChain, freeList, inboxList, never-zero}
-use Rattle.chains.specs.OnChains.{OnChains, sound-chains}
+use Rattle.store_laws.specs.Times.{times, by-same, stands-where}
+use Rattle.store_laws.specs.Leads.{IsChain, freeList, inboxList, never-zero}
+use Rattle.store_laws.specs.OnChains.{OnChains, sound-chains}
 
 -- ---- what a record says
 

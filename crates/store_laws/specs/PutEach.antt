@@ -9,8 +9,8 @@ use Rattle.message.specs.declared.Outgoing.{Outgoing}
 use Rattle.store.specs.Head.{groupSize}
 use Rattle.store.specs.Sound.{freeCount}
 use Rattle.store.specs.Change.{putIn, putEach, countOutgoing}
-use Rattle.chains.specs.Sound.{Sound}
-use Rattle.chains.specs.Put.{ForGroup, PutDone, put-done, some-free}
+use Rattle.store_laws.specs.Sound.{Sound}
+use Rattle.store_laws.specs.Put.{ForGroup, PutDone, put-done, some-free}
 
 -- every message that is present is for the group
 unfoldable pub AllForGroup : ℕ → List Outgoing → List Item → Type 0

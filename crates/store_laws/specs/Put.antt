@@ -22,14 +22,14 @@ use Rattle.store.specs.Change.{appended, taken, putIn}
 use Rattle.store.specs.Bytes.{Alike, alike-read, alike-rows, alike-zero, next-written}
 use Rattle.store.specs.Joined.{Sized}
 use Rattle.store.specs.Locality.{Local, Holds, set-same, set-other, local-alike, free-local, taken-local, appended-local, put-local}
-use Rattle.chains.specs.Times.{times, by-same, times-head, times-other, times-append, stands-head, stands-tail, changed, changed-at, changed-other}
-use Rattle.chains.specs.Leads.{Leads, IsChain, freeList, inboxList, leads-join, leads-same, starts-below}
-use Rattle.chains.specs.OnChains.{OnChains, at-most-once, free-is, inbox-is, sound-chains, sound-valid, sound-head, chains-sound, free-count}
-use Rattle.chains.specs.Message.{addressed-is, message-read, message-head}
-use Rattle.chains.specs.Links.{Small, same-free, same-first, same-head, free-set, free-first, free-head}
-use Rattle.chains.specs.Inbox.{InboxChanged, IsInbox, appended-is}
-use Rattle.chains.specs.Sound.{Sound, size-least, size-most, head-long}
-use Rattle.chains.specs.Relinked.{free-there, free-inner, free-alone, inbox-inner, inbox-only, is-inbox, Relinked, alike-belongs, relinked-chains}
+use Rattle.store_laws.specs.Times.{times, by-same, times-head, times-other, times-append, stands-head, stands-tail, changed, changed-at, changed-other}
+use Rattle.store_laws.specs.Leads.{Leads, IsChain, freeList, inboxList, leads-join, leads-same, starts-below}
+use Rattle.store_laws.specs.OnChains.{OnChains, at-most-once, free-is, inbox-is, sound-chains, sound-valid, sound-head, chains-sound, free-count}
+use Rattle.store_laws.specs.Message.{addressed-is, message-read, message-head}
+use Rattle.store_laws.specs.Links.{Small, same-free, same-first, same-head, free-set, free-first, free-head}
+use Rattle.store_laws.specs.Inbox.{InboxChanged, IsInbox, appended-is}
+use Rattle.store_laws.specs.Sound.{Sound, size-least, size-most, head-long}
+use Rattle.store_laws.specs.Relinked.{free-there, free-inner, free-alone, inbox-inner, inbox-only, is-inbox, Relinked, alike-belongs, relinked-chains}
 
 -- a message from a node of a group of n to another, which its record can hold
 pub record ForGroup (n : ℕ) (e : Envelope) (rows : List Item) : Type 0 where

@@ -16,9 +16,9 @@ use Rattle.store.specs.declared.Walked.{Walked}
 use Rattle.store.specs.Records.{recordIn}
 use Rattle.store.specs.Head.{firstFree, groupSize, firstOf, headZero}
 use Rattle.store.specs.Sound.{belongsTo, walkInboxes, allPassed, headPassed, walkFree, allOnChains, soundRecords, freeCount}
-use Rattle.chains.specs.Times.{times, timesOn, by-same, times-on-same, stands-on, stands-where, length-most}
-use Rattle.chains.specs.Leads.{IsChain, freeList, inboxList, chain-from, never-zero}
-use Rattle.chains.specs.Walk.{mark, Followed, FollowedAll, walk-chain, chain-walk, inboxes-chains, chains-inboxes, head-marks, head-passed, beyond-passed, all-passed, passed-all}
+use Rattle.store_laws.specs.Times.{times, timesOn, by-same, times-on-same, stands-on, stands-where, length-most}
+use Rattle.store_laws.specs.Leads.{IsChain, freeList, inboxList, chain-from, never-zero}
+use Rattle.store_laws.specs.Walk.{mark, Followed, FollowedAll, walk-chain, chain-walk, inboxes-chains, chains-inboxes, head-marks, head-passed, beyond-passed, all-passed, passed-all}
 
 -- how often record r stands on the chains
 abbrev pub standing : List (List ℕ) → List ℕ → (ℕ → List ℕ) → ℕ → ℕ

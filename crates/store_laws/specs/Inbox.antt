@@ -14,9 +14,9 @@ use Rattle.store.specs.Head.{firstFree, groupSize, firstOf, headZero, withFirst
 use Rattle.store.specs.Chain.{nextIn}
 use Rattle.store.specs.Change.{withNextIn, appended, unlinked}
 use Rattle.store.specs.Joined.{Sized}
-use Rattle.chains.specs.Times.{times, times-append, times-head, times-rest, stands-head, stands-tail}
-use Rattle.chains.specs.Leads.{Leads, IsChain, leads-join, leads-split, leads-same, starts, starts-not, starts-below, last-from, before-from}
-use Rattle.chains.specs.Links.{Small, same-free, same-first, same-head, first-set, first-other, first-free, first-head, next-of-set, next-other, next-head, next-set}
+use Rattle.store_laws.specs.Times.{times, times-append, times-head, times-rest, stands-head, stands-tail}
+use Rattle.store_laws.specs.Leads.{Leads, IsChain, leads-join, leads-split, leads-same, starts, starts-not, starts-below, last-from, before-from}
+use Rattle.store_laws.specs.Links.{Small, same-free, same-first, same-head, first-set, first-other, first-free, first-head, next-of-set, next-other, next-head, next-set}
 
 -- a change of node k's inbox alone: records that do not stand in `l` keep their next, other chains their first record
 pub record InboxChanged (rs rs′ : List (List ℕ)) (k : ℕ) (l : List ℕ) : Type 0 where

@@ -25,10 +25,10 @@ use Rattle.store.specs.Sound.{soundRecords, freeCount}
 use Rattle.store.specs.Change.{freeRecords, emptyHead, emptyRecords}
 use Rattle.store.specs.Bytes.{byte-other, cleared-zero, next-cleared, length-no-record}
 use Rattle.store.specs.Locality.{free-record, length-empty, empty-size, empty-sized}
-use Rattle.chains.specs.Times.{times, timesOn, by-same, times-head, times-other}
-use Rattle.chains.specs.Leads.{Leads, IsChain, freeList, inboxList}
-use Rattle.chains.specs.OnChains.{OnChains, free-is, inbox-is, chains-sound, free-count}
-use Rattle.chains.specs.Sound.{Sound}
+use Rattle.store_laws.specs.Times.{times, timesOn, by-same, times-head, times-other}
+use Rattle.store_laws.specs.Leads.{Leads, IsChain, freeList, inboxList}
+use Rattle.store_laws.specs.OnChains.{OnChains, free-is, inbox-is, chains-sound, free-count}
+use Rattle.store_laws.specs.Sound.{Sound}
 
 -- i, i + 1, .., `left` numbers
 unfoldable pub numbersFrom : ℕ → ℕ → List ℕ

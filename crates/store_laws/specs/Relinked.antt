@@ -14,10 +14,10 @@ use Rattle.store.specs.Head.{firstFree, groupSize, firstOf}
 use Rattle.store.specs.Chain.{nextIn}
 use Rattle.store.specs.Sound.{addressedTo, belongsTo}
 use Rattle.store.specs.Bytes.{Alike, alike-read}
-use Rattle.chains.specs.Times.{times, timesOn, by-same, times-on-change, stands-on, stands-two, changed, changed-at, changed-other}
-use Rattle.chains.specs.Leads.{IsChain, leads-same}
-use Rattle.chains.specs.OnChains.{OnChains, standing, head-on-none, at-most-once, inbox-short}
-use Rattle.chains.specs.Inbox.{IsInbox}
+use Rattle.store_laws.specs.Times.{times, timesOn, by-same, times-on-change, stands-on, stands-two, changed, changed-at, changed-other}
+use Rattle.store_laws.specs.Leads.{IsChain, leads-same}
+use Rattle.store_laws.specs.OnChains.{OnChains, standing, head-on-none, at-most-once, inbox-short}
+use Rattle.store_laws.specs.Inbox.{IsInbox}
 
 -- ---- a record that stands on one chain stands on no other
 

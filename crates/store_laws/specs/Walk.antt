@@ -18,8 +18,8 @@ use Rattle.store.specs.Records.{recordIn}
 use Rattle.store.specs.Head.{firstOf}
 use Rattle.store.specs.Chain.{nextIn, chainFrom, walked, walk}
 use Rattle.store.specs.Sound.{belongsTo, walkInboxes, allPassed, headPassed}
-use Rattle.chains.specs.Times.{bit, bit-same, bit-other, bit-true, bit-false, times, timesOn, by-same, stands-cases, stands-head, stands-tail}
-use Rattle.chains.specs.Leads.{Leads, IsChain, inboxList, chain-from}
+use Rattle.store_laws.specs.Times.{bit, bit-same, bit-other, bit-true, bit-false, times, timesOn, by-same, stands-cases, stands-head, stands-tail}
+use Rattle.store_laws.specs.Leads.{Leads, IsChain, inboxList, chain-from}
 
 -- whether record r was passed, as a number; a record that is not there counts as passed
 abbrev pub mark : List Bool → ℕ → ℕ

@@ -16,15 +16,15 @@ use Rattle.store.specs.Sound.{soundRecords, soundStore, freeCount}
 use Rattle.store.specs.Change.{putIn, putEach, countOutgoing, dropIn, emptyRecords}
 use Rattle.store.specs.Joined.{records-after, right-after}
 use Rattle.store.specs.Locality.{put-local, put-each-local, drop-local, length-empty, empty-sized}
-use Rattle.chains.specs.Times.{times}
-use Rattle.chains.specs.Leads.{inboxList}
-use Rattle.chains.specs.OnChains.{sound-chains}
-use Rattle.chains.specs.Relinked.{inbox-inner}
-use Rattle.chains.specs.Sound.{store-right, store-sound, store-after}
-use Rattle.chains.specs.Put.{ForGroup, put-done}
-use Rattle.chains.specs.PutEach.{AllForGroup, put-each-done}
-use Rattle.chains.specs.Drop.{drop-done}
-use Rattle.chains.specs.Empty.{set-up-done}
+use Rattle.store_laws.specs.Times.{times}
+use Rattle.store_laws.specs.Leads.{inboxList}
+use Rattle.store_laws.specs.OnChains.{sound-chains}
+use Rattle.store_laws.specs.Relinked.{inbox-inner}
+use Rattle.store_laws.specs.Sound.{store-right, store-sound, store-after}
+use Rattle.store_laws.specs.Put.{ForGroup, put-done}
+use Rattle.store_laws.specs.PutEach.{AllForGroup, put-each-done}
+use Rattle.store_laws.specs.Drop.{drop-done}
+use Rattle.store_laws.specs.Empty.{set-up-done}
 
 module _ (s : List ℕ) (sound : soundStore s ≡ true) where
   pub put-store : (e : Envelope) (rows : List Item) → ForGroup (groupSize (recordsOf s)) e rows → firstFree (recordsOf s) ≢ 0

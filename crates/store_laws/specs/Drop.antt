@@ -19,14 +19,14 @@ use Rattle.store.specs.Change.{unlinked, freed, dropIn}
 use Rattle.store.specs.Bytes.{Alike, alike-read, alike-rows, alike-zero, cleared-none, cleared-zero, next-cleared}
 use Rattle.store.specs.Joined.{Sized}
 use Rattle.store.specs.Locality.{Local, set-same, set-other, local-alike, unlinked-local, drop-local}
-use Rattle.chains.specs.Times.{times, by-same, times-append, times-head, stands-head, stands-cases, without, changed, changed-at, changed-other, Split, split-at}
-use Rattle.chains.specs.Leads.{Leads, IsChain, freeList, inboxList, leads-same, starts-below}
-use Rattle.chains.specs.OnChains.{OnChains, free-is, inbox-is, sound-chains, sound-valid, sound-head, chains-sound, free-count}
-use Rattle.chains.specs.Message.{message-read, message-head}
-use Rattle.chains.specs.Links.{Small, same-first, same-head, free-set, free-first, free-head}
-use Rattle.chains.specs.Inbox.{InboxChanged, IsInbox, unlinked-is}
-use Rattle.chains.specs.Sound.{Sound, size-least, size-most, head-long}
-use Rattle.chains.specs.Relinked.{free-there, free-inner, free-alone, inbox-inner, inbox-alone, inbox-there, inbox-once, inbox-only, is-inbox, Relinked, alike-belongs, relinked-chains}
+use Rattle.store_laws.specs.Times.{times, by-same, times-append, times-head, stands-head, stands-cases, without, changed, changed-at, changed-other, Split, split-at}
+use Rattle.store_laws.specs.Leads.{Leads, IsChain, freeList, inboxList, leads-same, starts-below}
+use Rattle.store_laws.specs.OnChains.{OnChains, free-is, inbox-is, sound-chains, sound-valid, sound-head, chains-sound, free-count}
+use Rattle.store_laws.specs.Message.{message-read, message-head}
+use Rattle.store_laws.specs.Links.{Small, same-first, same-head, free-set, free-first, free-head}
+use Rattle.store_laws.specs.Inbox.{InboxChanged, IsInbox, unlinked-is}
+use Rattle.store_laws.specs.Sound.{Sound, size-least, size-most, head-long}
+use Rattle.store_laws.specs.Relinked.{free-there, free-inner, free-alone, inbox-inner, inbox-alone, inbox-there, inbox-once, inbox-only, is-inbox, Relinked, alike-belongs, relinked-chains}
 
 -- ---- the records, with the lists of their chains
 

@@ -6,7 +6,7 @@ use native.Mathlib.Omega.{arith}
 use Rattle.item.specs.declared.Item.{Item}
 use Rattle.message.specs.declared.Envelope.{Envelope}
 use Rattle.record.specs.RoundTrip.{Fits, RowsFit, ReadsBack, reads-back}
-use Rattle.chains.specs.Put.{ForGroup}
+use Rattle.store_laws.specs.Put.{ForGroup}
 
 pub for-group : (n : ℕ) (e : Envelope) (rows : List Item) → e .sender < n → e .addressee < n → e .sender ≢ e .addressee → Fits e → RowsFit rows
     → ForGroup n e rows

@@ -7,9 +7,9 @@ use native.Mathlib.Omega.{arith}
 use lib.ListN.{length}
 use Rattle.store.specs.Head.{groupSize}
 use Rattle.store.specs.Sound.{soundRecords, freeCount}
-use Rattle.chains.specs.Times.{timesOn, total, total-length}
-use Rattle.chains.specs.Leads.{freeList, inboxList}
-use Rattle.chains.specs.OnChains.{OnChains, sound-chains, free-count, head-on-none}
+use Rattle.store_laws.specs.Times.{timesOn, total, total-length}
+use Rattle.store_laws.specs.Leads.{freeList, inboxList}
+use Rattle.store_laws.specs.OnChains.{OnChains, sound-chains, free-count, head-on-none}
 
 -- how many records stand on the inboxes of the nodes from k on, `left` of them
 unfoldable pub heldOn : ℕ → (ℕ → List ℕ) → ℕ → ℕ

@@ -10,7 +10,7 @@ use borrow.Author.Tests.{eq-eqb, ne-eqb}
 use lib.ListN.{length}
 use Rattle.store.specs.Head.{firstFree, firstOf}
 use Rattle.store.specs.Chain.{nextIn, chainFrom, lastFrom, beforeFrom}
-use Rattle.chains.specs.Times.{times, times-head, times-other, times-rest, stands-head, stands-tail}
+use Rattle.store_laws.specs.Times.{times, times-head, times-other, times-rest, stands-head, stands-tail}
 
 -- the records of l, one after the other from record i, lead to record j
 unfoldable pub Leads : List (List ℕ) → ℕ → List ℕ → ℕ → Type 0
