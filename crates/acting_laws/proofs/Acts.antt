@@ -31,9 +31,9 @@ use Rattle.protocol.specs.declared.Step.{Step}
 use Rattle.operations.proofs.Inbox.{no-fault}
 use Rattle.protocol.proofs.InView.{size-fits}
 use Rattle.protocol.proofs.Shapes.{deliver-shaped}
-use Rattle.node_laws.specs.Decision.{Write, Retry, Start, decide, MayCome}
-use Rattle.node_laws.specs.Laws.{SoundStaysSound}
-use Rattle.node_laws.proofs.Sound.{sound-stays-sound}
+use Rattle.laws_node.specs.Decision.{Write, Retry, Start, decide, MayCome}
+use Rattle.laws_node.specs.Laws.{SoundStaysSound}
+use Rattle.laws_node.proofs.Sound.{sound-stays-sound}
 use Rattle.run_laws.specs.Laws.{SoundGroup}
 use Rattle.run_laws.proofs.Keeps.{group-records, group-valid, stands, addressed, delivered-sound, performed-is}
 use Rattle.acting_laws.specs.Acting.{acted, mayWrite, mayRetry, mayCrash, mayStart, onInbox, isTaken, mayDeliver}

@@ -26,8 +26,8 @@ use Rattle.protocol.specs.declared.Sends.the-variants as sends
 use Rattle.protocol.specs.declared.Stage.the-variants.{Confirming}
 use Rattle.protocol.specs.declared.Step.{Step}
 use Rattle.protocol.proofs.InView.{Shaped, number-is, size-is}
-use Rattle.node_laws.proofs.PhaseCases.{storing-cases}
-use Rattle.node_laws.proofs.Soundly.{read-sound}
+use Rattle.laws_node.proofs.PhaseCases.{storing-cases}
+use Rattle.laws_node.proofs.Soundly.{read-sound}
 use Rattle.acting_laws.specs.Acting.{acted, isRoomFor}
 use Rattle.acting_laws.proofs.Sent.{nothing-sent, others-sent, one-sent, asked-sent}
 

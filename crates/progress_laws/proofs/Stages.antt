@@ -37,7 +37,7 @@ use Rattle.protocol.specs.declared.Step.{Step}
 use Rattle.protocol.specs.declared.Verdict.the-variants as verdict
 use Rattle.protocol.proofs.Counts.{peerUnder}
 use Rattle.protocol.proofs.InView.{Shaped, size-is}
-use Rattle.node_laws.proofs.Soundly.{read-sound}
+use Rattle.laws_node.proofs.Soundly.{read-sound}
 use Rattle.acting_laws.specs.Acting.{rowTakes}
 use Rattle.acting_laws.proofs.Sent.{nothing-sent, asked-sent}
 use Rattle.progress_laws.specs.Delivery.{envelopeOf}

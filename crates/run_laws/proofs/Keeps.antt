@@ -55,10 +55,10 @@ use Rattle.protocol.proofs.InView.{Shaped, number-is, size-is, size-fits}
 use Rattle.operations.proofs.Sent.{outgoing-fits, rows-fit, node-items-fit}
 use Rattle.protocol.proofs.Shapes.{write-shaped, retry-shaped, crash-shaped, start-shaped, deliver-shaped}
 use Rattle.operations.proofs.Represents.{StoreOf, store-after}
-use Rattle.node_laws.specs.Decision.{Write, Retry, Crash, Start, Deliver, decide, Stands, Comes, MayCome}
-use Rattle.node_laws.specs.Laws.{SoundStaysSound}
-use Rattle.node_laws.proofs.Every.{every-set}
-use Rattle.node_laws.proofs.Sound.{sound-stays-sound}
+use Rattle.laws_node.specs.Decision.{Write, Retry, Crash, Start, Deliver, decide, Stands, Comes, MayCome}
+use Rattle.laws_node.specs.Laws.{SoundStaysSound}
+use Rattle.laws_node.proofs.Every.{every-set}
+use Rattle.laws_node.proofs.Sound.{sound-stays-sound}
 use Rattle.run_laws.specs.Laws.{areSound, SoundGroup, LeavesSound}
 use Rattle.run_laws.specs.Within.{Within}
 use Rattle.run_laws.proofs.Bytes.{put-each-bytes, drop-bytes, joined-bytes, records-bytes}

@@ -35,9 +35,9 @@ use Rattle.protocol.proofs.InView.{Shaped, size-fits}
 use Rattle.protocol.proofs.Shapes.{fresh-shaped}
 use Rattle.operations.proofs.Start.{SetUpTo, set-up-is, first-represents}
 use Rattle.operations.proofs.Represents.{Represents}
-use Rattle.node_laws.proofs.Every.{every-same}
-use Rattle.node_laws.proofs.Soundly.{is-sound, none-sound}
-use Rattle.node_laws.proofs.SoundRows.{zero-sound}
+use Rattle.laws_node.proofs.Every.{every-same}
+use Rattle.laws_node.proofs.Soundly.{is-sound, none-sound}
+use Rattle.laws_node.proofs.SoundRows.{zero-sound}
 use Rattle.run_laws.specs.Laws.{areSound, SoundGroup, LeavesSound, SetUpIsSound, SoundStaysSound, RunsStaySound, NeverUnsound}
 use Rattle.run_laws.proofs.Bytes.{empty-records-bytes, joined-bytes}
 use Rattle.run_laws.proofs.Keeps.{performed-is, performs}

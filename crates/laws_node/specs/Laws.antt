@@ -9,9 +9,9 @@ use Rattle.protocol.specs.declared.Node.{Node}
 use Rattle.protocol.specs.declared.Refusal.{Refusal}
 use Rattle.protocol.specs.declared.Sends.the-variants as sends
 use Rattle.protocol.specs.declared.Step.{Step}
-use Rattle.node_laws.specs.Decision.{Decision, decide, after, Stands, MayCome}
-use Rattle.node_laws.specs.Fields.{Leaves, changed}
-use Rattle.node_laws.specs.OwnItem.{OwnItem}
+use Rattle.laws_node.specs.Decision.{Decision, decide, after, Stands, MayCome}
+use Rattle.laws_node.specs.Fields.{Leaves, changed}
+use Rattle.laws_node.specs.OwnItem.{OwnItem}
 
 -- a step at this node that is refused gives back the node, and sends nothing
 abbrev pub GivesBack : Node → Step → Type 0

@@ -25,9 +25,9 @@ use Rattle.protocol.specs.declared.RowUse.the-variants as row-use
 use Rattle.protocol.specs.declared.Stage.the-variants.{Storing}
 use Rattle.protocol.specs.declared.Step.{Step}
 use Rattle.protocol.proofs.InView.{size-fits}
-use Rattle.node_laws.specs.Decision.{Decision, MayCome}
-use Rattle.node_laws.specs.Laws.{SoundStaysSound}
-use Rattle.node_laws.proofs.Outcome.{
+use Rattle.laws_node.specs.Decision.{Decision, MayCome}
+use Rattle.laws_node.specs.Laws.{SoundStaysSound}
+use Rattle.laws_node.proofs.Outcome.{
   Received,
   declines,
   takes,
@@ -50,9 +50,9 @@ use Rattle.node_laws.proofs.Outcome.{
   receives,
   outcome,
 }
-use Rattle.node_laws.proofs.PhaseCases.{idle-cases, live-cases}
-use Rattle.node_laws.proofs.Soundly.{Soundly, read-sound, is-sound, rows-of, crashed-sound, started-sound, begun-sound}
-use Rattle.node_laws.proofs.SoundMessages.{row-sound, stored-counted, asking-sound, confirmed-counted, ended-sound, table-counted, back-sound}
+use Rattle.laws_node.proofs.PhaseCases.{idle-cases, live-cases}
+use Rattle.laws_node.proofs.Soundly.{Soundly, read-sound, is-sound, rows-of, crashed-sound, started-sound, begun-sound}
+use Rattle.laws_node.proofs.SoundMessages.{row-sound, stored-counted, asking-sound, confirmed-counted, ended-sound, table-counted, back-sound}
 
 -- a group has at least three nodes
 some-half : (n : ℕ) → validSize n ≡ true → 0 < half n

@@ -27,10 +27,10 @@ use Rattle.protocol.specs.declared.Refusal.{Refusal}
 use Rattle.protocol.specs.declared.Step.{Step}
 use Rattle.protocol.proofs.InView.{number-is, size-fits}
 use Rattle.protocol.proofs.Rows.{row-kept, begun-own, merged-row, merged-length, zero-row}
-use Rattle.node_laws.specs.Decision.{Decision, MayCome}
-use Rattle.node_laws.specs.Laws.{OwnItemOnlyWritten}
-use Rattle.node_laws.specs.OwnItem.{ByTable, stays, fetched, lost, ItemBy, ItemAfter, OwnItem}
-use Rattle.node_laws.proofs.Outcome.{
+use Rattle.laws_node.specs.Decision.{Decision, MayCome}
+use Rattle.laws_node.specs.Laws.{OwnItemOnlyWritten}
+use Rattle.laws_node.specs.OwnItem.{ByTable, stays, fetched, lost, ItemBy, ItemAfter, OwnItem}
+use Rattle.laws_node.proofs.Outcome.{
   Received,
   declines,
   takes,

@@ -27,7 +27,7 @@ use Rattle.protocol.specs.declared.Sends.the-variants as sends
 use Rattle.protocol.specs.declared.Stage.the-variants.{Confirming}
 use Rattle.protocol.specs.declared.Step.{Step}
 use Rattle.protocol.proofs.Cases.{write-cases, retry-cases, crash-cases, start-cases, store-cases, stored-cases, confirm-cases, confirmed-cases, fetch-cases, table-cases}
-use Rattle.node_laws.specs.Decision.{Decision, Write, Retry, Crash, Start, Deliver, decide}
+use Rattle.laws_node.specs.Decision.{Decision, Write, Retry, Crash, Start, Deliver, decide}
 
 -- the sender is counted, and those counted are asked
 abbrev pub asking : Node → ℕ → Incarnation → Node

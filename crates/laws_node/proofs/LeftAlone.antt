@@ -21,10 +21,10 @@ use Rattle.protocol.specs.declared.Phase.{Phase}
 use Rattle.protocol.specs.declared.Phase.the-variants.{Down, Fetching, Returning, Up}
 use Rattle.protocol.specs.declared.Step.{Step}
 use Rattle.protocol.proofs.Rows.{row-kept, begun-other}
-use Rattle.node_laws.specs.Decision.{Decision, Retry, Crash, Start}
-use Rattle.node_laws.specs.Fields.{Changed, among, changed, changedBy, Leaves}
-use Rattle.node_laws.specs.Laws.{OthersLeftAlone}
-use Rattle.node_laws.proofs.Outcome.{
+use Rattle.laws_node.specs.Decision.{Decision, Retry, Crash, Start}
+use Rattle.laws_node.specs.Fields.{Changed, among, changed, changedBy, Leaves}
+use Rattle.laws_node.specs.Laws.{OthersLeftAlone}
+use Rattle.laws_node.proofs.Outcome.{
   Received,
   declines,
   takes,

@@ -23,9 +23,9 @@ use Rattle.protocol.specs.declared.Node.{Node}
 use Rattle.protocol.specs.declared.Phase.{Phase}
 use Rattle.protocol.specs.declared.Phase.the-variants.{Down, Fetching, Returning, Up}
 use Rattle.protocol.specs.declared.Step.{Step}
-use Rattle.node_laws.specs.Decision.{Decision}
-use Rattle.node_laws.specs.Laws.{IncarnationsNeverFall, AttemptsNeverFall}
-use Rattle.node_laws.proofs.Outcome.{
+use Rattle.laws_node.specs.Decision.{Decision}
+use Rattle.laws_node.specs.Laws.{IncarnationsNeverFall, AttemptsNeverFall}
+use Rattle.laws_node.proofs.Outcome.{
   Received,
   declines,
   takes,

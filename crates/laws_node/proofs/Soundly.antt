@@ -27,9 +27,9 @@ use Rattle.protocol.specs.declared.Phase.the-variants.{Fetching}
 use Rattle.protocol.specs.declared.RowUse.{RowUse}
 use Rattle.protocol.specs.declared.RowUse.the-variants as row-use
 use Rattle.protocol.proofs.Counts.{peerUnder}
-use Rattle.node_laws.proofs.Every.{every-set, every-same}
-use Rattle.node_laws.proofs.PhaseCases.{storing-cases}
-use Rattle.node_laws.proofs.SoundRows.{zero-sound, stored-sound}
+use Rattle.laws_node.proofs.Every.{every-set, every-same}
+use Rattle.laws_node.proofs.PhaseCases.{storing-cases}
+use Rattle.laws_node.proofs.SoundRows.{zero-sound, stored-sound}
 
 -- what soundness says, field by field
 pub record Soundly (n k : ℕ) (node : Node) : Type 0 where

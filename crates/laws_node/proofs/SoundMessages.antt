@@ -30,11 +30,11 @@ use Rattle.protocol.specs.declared.RowUse.the-variants as row-use
 use Rattle.protocol.specs.declared.Stage.the-variants.{Storing, Confirming}
 use Rattle.protocol.proofs.Counts.{peerUnder}
 use Rattle.protocol.proofs.Rows.{merged-length}
-use Rattle.node_laws.proofs.Every.{every-weaker, one-more, not-none}
-use Rattle.node_laws.proofs.Outcome.{asking}
-use Rattle.node_laws.proofs.PhaseCases.{fetching-cases, up-cases, storing-cases, confirming-cases}
-use Rattle.node_laws.proofs.SoundRows.{unused-fetched, merged-sound, rebuilt-sound}
-use Rattle.node_laws.proofs.Soundly.{Soundly, rows-in, rows-of, row-set, none-sound, peer-set, none-fewer, none-among, among-set, begun-sound}
+use Rattle.laws_node.proofs.Every.{every-weaker, one-more, not-none}
+use Rattle.laws_node.proofs.Outcome.{asking}
+use Rattle.laws_node.proofs.PhaseCases.{fetching-cases, up-cases, storing-cases, confirming-cases}
+use Rattle.laws_node.proofs.SoundRows.{unused-fetched, merged-sound, rebuilt-sound}
+use Rattle.laws_node.proofs.Soundly.{Soundly, rows-in, rows-of, row-set, none-sound, peer-set, none-fewer, none-among, among-set, begun-sound}
 
 module _ (n k : ℕ) (node : Node) (S : Soundly n k node) (s : ℕ) (l : s < n) where
   pub row-sound : (item : Item) (i : Incarnation) (a : Attempt) → isUp (node .phase) ≡ true

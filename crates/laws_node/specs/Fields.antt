@@ -8,7 +8,7 @@ use Rattle.message.specs.declared.Message.the-variants as message
 use Rattle.protocol.specs.Node.{rowOf}
 use Rattle.protocol.specs.Phase.{isFetching}
 use Rattle.protocol.specs.declared.Node.{Node}
-use Rattle.node_laws.specs.Decision.{Decision, Write, Retry, Crash, Start, Deliver}
+use Rattle.laws_node.specs.Decision.{Decision, Write, Retry, Crash, Start, Deliver}
 
 -- which rows may change
 pub data Rows : Type 0 where

@@ -17,9 +17,9 @@ use Rattle.protocol.specs.declared.Node.{Node}
 use Rattle.protocol.specs.declared.Refusal.{Refusal}
 use Rattle.protocol.specs.declared.Sends.{Sends}
 use Rattle.protocol.specs.declared.Step.{Step}
-use Rattle.node_laws.specs.Decision.{Decision}
-use Rattle.node_laws.specs.Laws.{GivesBack, RefusedGivesBack}
-use Rattle.node_laws.proofs.Outcome.{
+use Rattle.laws_node.specs.Decision.{Decision}
+use Rattle.laws_node.specs.Laws.{GivesBack, RefusedGivesBack}
+use Rattle.laws_node.proofs.Outcome.{
   Received,
   declines,
   takes,

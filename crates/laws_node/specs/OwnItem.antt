@@ -12,7 +12,7 @@ use Rattle.protocol.specs.Answer.{isRefused}
 use Rattle.protocol.specs.Write.{nextItem}
 use Rattle.protocol.specs.declared.Node.{Node}
 use Rattle.protocol.specs.declared.Step.{Step}
-use Rattle.node_laws.specs.Decision.{Decision, Write, Retry, Crash, Start, Deliver}
+use Rattle.laws_node.specs.Decision.{Decision, Write, Retry, Crash, Start, Deliver}
 
 -- by a Table, the return: the item stays, or is the one that the Table has for this node, or is zero where the return stops
 pub data ByTable (told old new : Item) : Type 0 where
