@@ -34,8 +34,8 @@ use Rattle.protocol.proofs.Shapes.{deliver-shaped}
 use Rattle.laws_node.specs.Decision.{Write, Retry, Start, decide, MayCome}
 use Rattle.laws_node.specs.Laws.{SoundStaysSound}
 use Rattle.laws_node.proofs.Sound.{sound-stays-sound}
-use Rattle.run_laws.specs.Laws.{SoundGroup}
-use Rattle.run_laws.proofs.Keeps.{group-records, group-valid, stands, addressed, delivered-sound, performed-is}
+use Rattle.laws_runs.specs.Laws.{SoundGroup}
+use Rattle.laws_runs.proofs.Keeps.{group-records, group-valid, stands, addressed, delivered-sound, performed-is}
 use Rattle.acting_laws.specs.Acting.{acted, mayWrite, mayRetry, mayCrash, mayStart, onInbox, isTaken, mayDeliver}
 use Rattle.acting_laws.specs.Laws.{SetUpActs, WriteActs, RetryActs, CrashActs, StartActs, DropActs, DeliverActs}
 use Rattle.acting_laws.proofs.Calls.{write-node, retry-node, crash-node, start-node}

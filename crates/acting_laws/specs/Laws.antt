@@ -12,7 +12,7 @@ use Rattle.operations.specs.Operation.{setUp, perform}
 use Rattle.protocol.specs.declared.Event.{Event}
 use Rattle.protocol.specs.declared.Event.the-variants as event
 use Rattle.protocol.specs.declared.Node.{Node}
-use Rattle.run_laws.specs.Laws.{SoundGroup}
+use Rattle.laws_runs.specs.Laws.{SoundGroup}
 use Rattle.acting_laws.specs.Acting.{acted, mayWrite, mayRetry, mayCrash, mayStart, onInbox, mayDeliver}
 
 -- in a sound group this event acts exactly if the test says so

@@ -27,7 +27,7 @@ use Rattle.protocol.specs.declared.Phase.the-variants.{Up}
 use Rattle.protocol.specs.declared.Stage.the-variants.{Storing}
 use Rattle.protocol.proofs.InView.{Shaped, number-is, odd-size, size-fits}
 use Rattle.laws_node.proofs.PhaseCases.{up-cases}
-use Rattle.run_laws.proofs.Keeps.{Decided, group-valid, group-table, retry-decided, performed-is, performs}
+use Rattle.laws_runs.proofs.Keeps.{Decided, group-valid, group-table, retry-decided, performed-is, performs}
 use Rattle.progress_laws.specs.Laws.{Peers, BeginsAndGetsThrough, MayRetry, RetryGetsThrough}
 use Rattle.acting_laws.specs.Acting.{rowTakes}
 use Rattle.progress_laws.proofs.Begins.{begins}

@@ -25,8 +25,8 @@ use Rattle.protocol.specs.declared.Stage.the-variants.{Storing}
 use Rattle.protocol.proofs.InView.{number-is, size-is, size-fits}
 use Rattle.acting_laws.specs.Acting.{rowTakes}
 use Rattle.acting_laws.proofs.Sent.{others-sent}
-use Rattle.run_laws.specs.Laws.{LeavesSound}
-use Rattle.run_laws.proofs.Keeps.{Decided, group-valid}
+use Rattle.laws_runs.specs.Laws.{LeavesSound}
+use Rattle.laws_runs.proofs.Keeps.{Decided, group-valid}
 use Rattle.progress_laws.specs.Delivery.{storeTo}
 use Rattle.progress_laws.specs.Each.{Each, Both}
 use Rattle.progress_laws.specs.Laws.{Peers, HasBegun, WriteGetsThrough, BeginsAndGetsThrough}

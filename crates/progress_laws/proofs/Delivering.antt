@@ -31,8 +31,8 @@ use Rattle.protocol.specs.declared.Event.the-variants as event
 use Rattle.protocol.specs.declared.Node.{Node}
 use Rattle.protocol.specs.declared.Sends.{Sends}
 use Rattle.protocol.specs.declared.Step.{Step}
-use Rattle.run_laws.specs.Laws.{LeavesSound}
-use Rattle.run_laws.proofs.Keeps.{Decided, group-table, delivered-sound, group-store, all-for-group, records-are, deliver-decided, performed-is, performs}
+use Rattle.laws_runs.specs.Laws.{LeavesSound}
+use Rattle.laws_runs.proofs.Keeps.{Decided, group-table, delivered-sound, group-store, all-for-group, records-are, deliver-decided, performed-is, performs}
 use Rattle.progress_laws.specs.Delivery.{deliver}
 use Rattle.progress_laws.proofs.Puts.{Puts, puts}
 

@@ -38,9 +38,9 @@ use Rattle.operations.proofs.Fitting.{getD-same}
 use Rattle.protocol.proofs.InView.{size-fits}
 use Rattle.operations.proofs.Start.{SetUpTo, set-up-is}
 use Rattle.acting_laws.specs.Acting.{rowTakes}
-use Rattle.run_laws.specs.Laws.{LeavesSound, SetUpIsSound}
-use Rattle.run_laws.proofs.Keeps.{Decided, write-decided, performed-is, performs}
-use Rattle.run_laws.proofs.Runs.{set-up-is-sound}
+use Rattle.laws_runs.specs.Laws.{LeavesSound, SetUpIsSound}
+use Rattle.laws_runs.proofs.Keeps.{Decided, write-decided, performed-is, performs}
+use Rattle.laws_runs.proofs.Runs.{set-up-is-sound}
 use Rattle.progress_laws.specs.Laws.{Peers, BeginsAndGetsThrough, FirstWriteGetsThrough}
 use Rattle.progress_laws.proofs.Lists.{each-map}
 use Rattle.progress_laws.proofs.Begins.{begins}

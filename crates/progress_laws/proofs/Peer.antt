@@ -31,8 +31,8 @@ use Rattle.protocol.specs.declared.Node.{Node}
 use Rattle.protocol.specs.declared.Sends.the-variants as sends
 use Rattle.protocol.proofs.InView.{Shaped, number-is, size-is, size-fits}
 use Rattle.acting_laws.proofs.Sent.{one-sent}
-use Rattle.run_laws.specs.Laws.{LeavesSound}
-use Rattle.run_laws.proofs.Keeps.{group-valid}
+use Rattle.laws_runs.specs.Laws.{LeavesSound}
+use Rattle.laws_runs.proofs.Keeps.{group-valid}
 use Rattle.progress_laws.specs.Delivery.{Delivery, deliver, Deliver, oks, envelopeOf}
 use Rattle.progress_laws.specs.Each.{Each, Both, Distinct}
 use Rattle.progress_laws.proofs.Delivering.{Acted, out-has, delivery-as, sound-as, replaced, left-alone}

@@ -35,8 +35,8 @@ use Rattle.protocol.specs.declared.Sends.the-variants as sends
 use Rattle.protocol.specs.declared.Stage.the-variants.{Confirming}
 use Rattle.protocol.proofs.Counts.{peerUnder, none-present}
 use Rattle.protocol.proofs.InView.{Shaped, number-is, size-is, size-fits}
-use Rattle.run_laws.specs.Laws.{LeavesSound}
-use Rattle.run_laws.proofs.Keeps.{group-valid, group-table}
+use Rattle.laws_runs.specs.Laws.{LeavesSound}
+use Rattle.laws_runs.proofs.Keeps.{group-valid, group-table}
 use Rattle.acting_laws.specs.Acting.{rowTakes}
 use Rattle.progress_laws.specs.Delivery.{Delivery, Deliver, oks, envelopeOf, storeTo}
 use Rattle.progress_laws.specs.Each.{Each, Both, Distinct}

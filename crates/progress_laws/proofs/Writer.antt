@@ -37,8 +37,8 @@ use Rattle.protocol.specs.declared.Step.{Step}
 use Rattle.protocol.proofs.Counts.{peerUnder}
 use Rattle.protocol.proofs.InView.{Shaped, size-is, size-fits}
 use Rattle.acting_laws.proofs.Sent.{nothing-sent}
-use Rattle.run_laws.specs.Laws.{LeavesSound}
-use Rattle.run_laws.proofs.Keeps.{group-valid, group-table, deliver-decided}
+use Rattle.laws_runs.specs.Laws.{LeavesSound}
+use Rattle.laws_runs.proofs.Keeps.{group-valid, group-table, deliver-decided}
 use Rattle.progress_laws.specs.Delivery.{Delivery, deliver, Deliver, oks, envelopeOf}
 use Rattle.progress_laws.specs.Each.{Each, Both, Distinct}
 use Rattle.progress_laws.proofs.Delivering.{Acted, delivery-as, sound-as, replaced, left-alone}

@@ -1,6 +1,7 @@
 // The laws of runs: table and store stay sound, so that no call of a run is refused with 2 or 3. Each law is a statement
 // of specs/ and the contract of a function that does nothing; the proofs are in proofs/, and there is no code.
-ghost use Rattle.run_laws.specs.Laws.{SetUpIsSound, SoundStaysSound, RunsStaySound, NeverUnsound};
+
+ghost use Rattle.laws_runs.specs.Laws.{SetUpIsSound, SoundStaysSound, RunsStaySound, NeverUnsound};
 
 // An accepted set-up makes table and store sound.
 pub fn set_up_is_sound()

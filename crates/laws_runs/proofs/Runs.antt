@@ -38,10 +38,10 @@ use Rattle.operations.proofs.Represents.{Represents}
 use Rattle.laws_node.proofs.Every.{every-same}
 use Rattle.laws_node.proofs.Soundly.{is-sound, none-sound}
 use Rattle.laws_node.proofs.SoundRows.{zero-sound}
-use Rattle.run_laws.specs.Laws.{areSound, SoundGroup, LeavesSound, SetUpIsSound, SoundStaysSound, RunsStaySound, NeverUnsound}
-use Rattle.run_laws.proofs.Bytes.{empty-records-bytes, joined-bytes}
-use Rattle.run_laws.proofs.Keeps.{performed-is, performs}
-use Rattle.run_laws.proofs.Numbers.{Above, on-sound-above}
+use Rattle.laws_runs.specs.Laws.{areSound, SoundGroup, LeavesSound, SetUpIsSound, SoundStaysSound, RunsStaySound, NeverUnsound}
+use Rattle.laws_runs.proofs.Bytes.{empty-records-bytes, joined-bytes}
+use Rattle.laws_runs.proofs.Keeps.{performed-is, performs}
+use Rattle.laws_runs.proofs.Numbers.{Above, on-sound-above}
 
 -- ---- set-up
 

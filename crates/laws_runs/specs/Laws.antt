@@ -18,7 +18,7 @@ use Rattle.protocol.specs.declared.Refusal.{Refusal}
 use Rattle.store.specs.Head.{groupSize}
 use Rattle.store.specs.Records.{recordsOf}
 use Rattle.store.specs.Sound.{soundStore}
-use Rattle.run_laws.specs.Within.{Within}
+use Rattle.laws_runs.specs.Within.{Within}
 
 -- what "3: store or table unsound" (and 2 before it) finds nothing against
 unfoldable pub areSound : List Node → List ℕ → Bool

@@ -49,7 +49,7 @@ use Rattle.protocol.specs.declared.Node.{Node}
 use Rattle.protocol.specs.declared.Step.{Step}
 use Rattle.operations.proofs.Fitting.{NodeFits, StepFits, set-any, write-fits, retry-fits, crash-fits, start-fits}
 use Rattle.operations.proofs.FittingDelivery.{deliver-fits}
-use Rattle.run_laws.proofs.Inbox.{Addressed, in-inbox}
+use Rattle.laws_runs.proofs.Inbox.{Addressed, in-inbox}
 use Rattle.operations.proofs.Inbox.{message-read}
 use Rattle.protocol.proofs.InView.{Shaped, number-is, size-is, size-fits}
 use Rattle.operations.proofs.Sent.{outgoing-fits, rows-fit, node-items-fit}
@@ -59,11 +59,11 @@ use Rattle.laws_node.specs.Decision.{Write, Retry, Crash, Start, Deliver, decid
 use Rattle.laws_node.specs.Laws.{SoundStaysSound}
 use Rattle.laws_node.proofs.Every.{every-set}
 use Rattle.laws_node.proofs.Sound.{sound-stays-sound}
-use Rattle.run_laws.specs.Laws.{areSound, SoundGroup, LeavesSound}
-use Rattle.run_laws.specs.Within.{Within}
-use Rattle.run_laws.proofs.Bytes.{put-each-bytes, drop-bytes, joined-bytes, records-bytes}
-use Rattle.run_laws.proofs.Going.{Going, going, isBack, write-not, retry-not, crash-not, start-not}
-use Rattle.run_laws.proofs.Messages.{Says, says}
+use Rattle.laws_runs.specs.Laws.{areSound, SoundGroup, LeavesSound}
+use Rattle.laws_runs.specs.Within.{Within}
+use Rattle.laws_runs.proofs.Bytes.{put-each-bytes, drop-bytes, joined-bytes, records-bytes}
+use Rattle.laws_runs.proofs.Going.{Going, going, isBack, write-not, retry-not, crash-not, start-not}
+use Rattle.laws_runs.proofs.Messages.{Says, says}
 
 -- ---- a sound table
 
