@@ -41,7 +41,7 @@ use Rattle.operations.proofs.Represents.{store-after}
 use Rattle.operations.proofs.Start.{SetUpTo, set-up-is}
 use Rattle.laws_runs.specs.Laws.{SoundGroup}
 use Rattle.laws_runs.proofs.Keeps.{Decided, group-store, group-records, store-of, all-for-group, all-read, records-are, write-decided, retry-decided, crash-decided, start-decided, deliver-decided, performed-is}
-use Rattle.acting_laws.specs.Acting.{acted}
+use Rattle.laws_enabled.specs.Acting.{acted}
 use Rattle.inbox_laws.specs.Inbox.{entriesIn, inbox}
 use Rattle.inbox_laws.specs.Laws.{SetUpEmpties, HoldsAfter, HoldsAfterCall, RecordsCounted}
 use Rattle.inbox_laws.specs.Sent.{sentFor, sentByEvent, entriesTo, kept, freed}

@@ -17,7 +17,7 @@ use Rattle.protocol.specs.declared.Answer.the-variants as answer
 use Rattle.protocol.specs.declared.Event.{Event}
 use Rattle.protocol.specs.declared.Node.{Node}
 use Rattle.laws_runs.specs.Laws.{SoundGroup}
-use Rattle.acting_laws.specs.Acting.{acted}
+use Rattle.laws_enabled.specs.Acting.{acted}
 use Rattle.inbox_laws.specs.Inbox.{inbox}
 use Rattle.inbox_laws.specs.Sent.{sentByEvent, entriesTo, kept, freed}
 

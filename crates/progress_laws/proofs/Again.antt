@@ -29,7 +29,7 @@ use Rattle.protocol.proofs.InView.{Shaped, number-is, odd-size, size-fits}
 use Rattle.laws_node.proofs.PhaseCases.{up-cases}
 use Rattle.laws_runs.proofs.Keeps.{Decided, group-valid, group-table, retry-decided, performed-is, performs}
 use Rattle.progress_laws.specs.Laws.{Peers, BeginsAndGetsThrough, MayRetry, RetryGetsThrough}
-use Rattle.acting_laws.specs.Acting.{rowTakes}
+use Rattle.laws_enabled.specs.Acting.{rowTakes}
 use Rattle.progress_laws.proofs.Begins.{begins}
 use Rattle.progress_laws.proofs.Lists.{each-map}
 

@@ -23,8 +23,8 @@ use Rattle.protocol.specs.declared.Node.{Node}
 use Rattle.protocol.specs.declared.Phase.the-variants.{Up}
 use Rattle.protocol.specs.declared.Stage.the-variants.{Storing}
 use Rattle.protocol.proofs.InView.{number-is, size-is, size-fits}
-use Rattle.acting_laws.specs.Acting.{rowTakes}
-use Rattle.acting_laws.proofs.Sent.{others-sent}
+use Rattle.laws_enabled.specs.Acting.{rowTakes}
+use Rattle.laws_enabled.proofs.Sent.{others-sent}
 use Rattle.laws_runs.specs.Laws.{LeavesSound}
 use Rattle.laws_runs.proofs.Keeps.{Decided, group-valid}
 use Rattle.progress_laws.specs.Delivery.{storeTo}

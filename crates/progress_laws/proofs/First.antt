@@ -37,7 +37,7 @@ use Rattle.protocol.specs.declared.Sends.the-variants as sends
 use Rattle.operations.proofs.Fitting.{getD-same}
 use Rattle.protocol.proofs.InView.{size-fits}
 use Rattle.operations.proofs.Start.{SetUpTo, set-up-is}
-use Rattle.acting_laws.specs.Acting.{rowTakes}
+use Rattle.laws_enabled.specs.Acting.{rowTakes}
 use Rattle.laws_runs.specs.Laws.{LeavesSound, SetUpIsSound}
 use Rattle.laws_runs.proofs.Keeps.{Decided, write-decided, performed-is, performs}
 use Rattle.laws_runs.proofs.Runs.{set-up-is-sound}

@@ -30,7 +30,7 @@ use Rattle.protocol.specs.declared.Answer.the-variants as answer
 use Rattle.protocol.specs.declared.Node.{Node}
 use Rattle.protocol.specs.declared.Sends.the-variants as sends
 use Rattle.protocol.proofs.InView.{Shaped, number-is, size-is, size-fits}
-use Rattle.acting_laws.proofs.Sent.{one-sent}
+use Rattle.laws_enabled.proofs.Sent.{one-sent}
 use Rattle.laws_runs.specs.Laws.{LeavesSound}
 use Rattle.laws_runs.proofs.Keeps.{group-valid}
 use Rattle.progress_laws.specs.Delivery.{Delivery, deliver, Deliver, oks, envelopeOf}

@@ -38,8 +38,8 @@ use Rattle.protocol.specs.declared.Verdict.the-variants as verdict
 use Rattle.protocol.proofs.Counts.{peerUnder}
 use Rattle.protocol.proofs.InView.{Shaped, size-is}
 use Rattle.laws_node.proofs.Soundly.{read-sound}
-use Rattle.acting_laws.specs.Acting.{rowTakes}
-use Rattle.acting_laws.proofs.Sent.{nothing-sent, asked-sent}
+use Rattle.laws_enabled.specs.Acting.{rowTakes}
+use Rattle.laws_enabled.proofs.Sent.{nothing-sent, asked-sent}
 use Rattle.progress_laws.specs.Delivery.{envelopeOf}
 use Rattle.progress_laws.proofs.Peer.{Answering}
 

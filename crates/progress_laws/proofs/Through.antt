@@ -37,7 +37,7 @@ use Rattle.protocol.proofs.Counts.{peerUnder, none-present}
 use Rattle.protocol.proofs.InView.{Shaped, number-is, size-is, size-fits}
 use Rattle.laws_runs.specs.Laws.{LeavesSound}
 use Rattle.laws_runs.proofs.Keeps.{group-valid, group-table}
-use Rattle.acting_laws.specs.Acting.{rowTakes}
+use Rattle.laws_enabled.specs.Acting.{rowTakes}
 use Rattle.progress_laws.specs.Delivery.{Delivery, Deliver, oks, envelopeOf, storeTo}
 use Rattle.progress_laws.specs.Each.{Each, Both, Distinct}
 use Rattle.progress_laws.specs.Laws.{WriteGetsThrough}

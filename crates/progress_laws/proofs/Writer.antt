@@ -36,7 +36,7 @@ use Rattle.protocol.specs.declared.Sends.the-variants as sends
 use Rattle.protocol.specs.declared.Step.{Step}
 use Rattle.protocol.proofs.Counts.{peerUnder}
 use Rattle.protocol.proofs.InView.{Shaped, size-is, size-fits}
-use Rattle.acting_laws.proofs.Sent.{nothing-sent}
+use Rattle.laws_enabled.proofs.Sent.{nothing-sent}
 use Rattle.laws_runs.specs.Laws.{LeavesSound}
 use Rattle.laws_runs.proofs.Keeps.{group-valid, group-table, deliver-decided}
 use Rattle.progress_laws.specs.Delivery.{Delivery, deliver, Deliver, oks, envelopeOf}

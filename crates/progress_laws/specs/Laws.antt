@@ -23,7 +23,7 @@ use Rattle.protocol.specs.declared.Node.{Node}
 use Rattle.protocol.specs.declared.Phase.the-variants.{Up}
 use Rattle.protocol.specs.declared.Stage.the-variants.{Storing}
 use Rattle.laws_runs.specs.Laws.{LeavesSound}
-use Rattle.acting_laws.specs.Acting.{rowTakes}
+use Rattle.laws_enabled.specs.Acting.{rowTakes}
 use Rattle.progress_laws.specs.Delivery.{Delivery, Deliver, oks, storeTo, storedFrom, confirmTo, confirmedFrom}
 use Rattle.progress_laws.specs.Each.{Each, Both, Distinct}
 

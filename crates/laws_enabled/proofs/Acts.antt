@@ -36,10 +36,10 @@ use Rattle.laws_node.specs.Laws.{SoundStaysSound}
 use Rattle.laws_node.proofs.Sound.{sound-stays-sound}
 use Rattle.laws_runs.specs.Laws.{SoundGroup}
 use Rattle.laws_runs.proofs.Keeps.{group-records, group-valid, stands, addressed, delivered-sound, performed-is}
-use Rattle.acting_laws.specs.Acting.{acted, mayWrite, mayRetry, mayCrash, mayStart, onInbox, isTaken, mayDeliver}
-use Rattle.acting_laws.specs.Laws.{SetUpActs, WriteActs, RetryActs, CrashActs, StartActs, DropActs, DeliverActs}
-use Rattle.acting_laws.proofs.Calls.{write-node, retry-node, crash-node, start-node}
-use Rattle.acting_laws.proofs.Deliveries.{message-node}
+use Rattle.laws_enabled.specs.Acting.{acted, mayWrite, mayRetry, mayCrash, mayStart, onInbox, isTaken, mayDeliver}
+use Rattle.laws_enabled.specs.Laws.{SetUpActs, WriteActs, RetryActs, CrashActs, StartActs, DropActs, DeliverActs}
+use Rattle.laws_enabled.proofs.Calls.{write-node, retry-node, crash-node, start-node}
+use Rattle.laws_enabled.proofs.Deliveries.{message-node}
 
 pub set-up-acts : SetUpActs
 unfolding SetUpActs setUp refuse acted isRefused

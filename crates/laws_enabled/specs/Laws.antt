@@ -13,7 +13,7 @@ use Rattle.protocol.specs.declared.Event.{Event}
 use Rattle.protocol.specs.declared.Event.the-variants as event
 use Rattle.protocol.specs.declared.Node.{Node}
 use Rattle.laws_runs.specs.Laws.{SoundGroup}
-use Rattle.acting_laws.specs.Acting.{acted, mayWrite, mayRetry, mayCrash, mayStart, onInbox, mayDeliver}
+use Rattle.laws_enabled.specs.Acting.{acted, mayWrite, mayRetry, mayCrash, mayStart, onInbox, mayDeliver}
 
 -- in a sound group this event acts exactly if the test says so
 abbrev pub ActsIf : Event → (ℕ → List Node → List (List ℕ) → Bool) → Type 0

@@ -15,8 +15,8 @@ use Rattle.protocol.specs.Write.{sendStore, sendFetch, writeAtLargest, nothingT
 use Rattle.protocol.specs.declared.Node.{Node}
 use Rattle.protocol.specs.declared.Refusal.the-variants.{WrongStage, AtLargest}
 use Rattle.protocol.specs.declared.Step.{Step}
-use Rattle.acting_laws.specs.Acting.{acted, isRoomFor}
-use Rattle.acting_laws.proofs.Steps.{refused-acts, quiet-acts, store-acts, fetch-acts}
+use Rattle.laws_enabled.specs.Acting.{acted, isRoomFor}
+use Rattle.laws_enabled.proofs.Steps.{refused-acts, quiet-acts, store-acts, fetch-acts}
 use borrow.Author.Tests.{le-leb}
 use native.Mathlib.Omega.{arith}
 use Rattle.store.specs.Sound.{freeCount}

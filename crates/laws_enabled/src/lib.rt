@@ -1,6 +1,7 @@
 // When each operation acts, that is, is not refused: on a sound table and store a test in the words of document 01 says it
 // exactly. Each law is a statement of specs/ and the contract of a function that does nothing; the proofs are in proofs/.
-ghost use Rattle.acting_laws.specs.Laws.{SetUpActs, WriteActs, RetryActs, CrashActs, StartActs, DropActs, DeliverActs};
+
+ghost use Rattle.laws_enabled.specs.Laws.{SetUpActs, WriteActs, RetryActs, CrashActs, StartActs, DropActs, DeliverActs};
 
 // Set up acts exactly on a valid n, a table of n nodes and a store of the right length.
 pub fn set_up_acts()

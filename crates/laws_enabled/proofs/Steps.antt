@@ -28,8 +28,8 @@ use Rattle.protocol.specs.declared.Step.{Step}
 use Rattle.protocol.proofs.InView.{Shaped, number-is, size-is}
 use Rattle.laws_node.proofs.PhaseCases.{storing-cases}
 use Rattle.laws_node.proofs.Soundly.{read-sound}
-use Rattle.acting_laws.specs.Acting.{acted, isRoomFor}
-use Rattle.acting_laws.proofs.Sent.{nothing-sent, others-sent, one-sent, asked-sent}
+use Rattle.laws_enabled.specs.Acting.{acted, isRoomFor}
+use Rattle.laws_enabled.proofs.Sent.{nothing-sent, others-sent, one-sent, asked-sent}
 
 module _ (table : List Node) (store : List ℕ) (rs : List (List ℕ)) (k back : ℕ) where
   abbrev pub actsAt : Step → Bool

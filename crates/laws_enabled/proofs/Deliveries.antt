@@ -30,8 +30,8 @@ use Rattle.protocol.specs.declared.Stage.the-variants.{Confirming}
 use Rattle.protocol.specs.declared.Step.{Step}
 use Rattle.protocol.specs.declared.Verdict.{Verdict}
 use Rattle.protocol.proofs.InView.{Shaped}
-use Rattle.acting_laws.specs.Acting.{acted, isRoomFor, rowTakes, takes, sending}
-use Rattle.acting_laws.proofs.Steps.{refused-acts, quiet-acts, store-acts, back-acts, confirm-acts, asked-half}
+use Rattle.laws_enabled.specs.Acting.{acted, isRoomFor, rowTakes, takes, sending}
+use Rattle.laws_enabled.proofs.Steps.{refused-acts, quiet-acts, store-acts, back-acts, confirm-acts, asked-half}
 
 -- the answer at the end of a write is no refusal
 end-taken : (p : Phase) (i : Item) → isRefused (endAnswer p i) ≡ false
