@@ -1,6 +1,7 @@
 // What the store holds after a call: each inbox as the list of its messages, the free chain, and how many records are free.
 // Each law is a statement of specs/ and the contract of a function that does nothing; the proofs are in proofs/.
-ghost use Rattle.inbox_laws.specs.Laws.{SetUpEmpties, HoldsAfterCall, RecordsCounted};
+
+ghost use Rattle.laws_inboxes.specs.Laws.{SetUpEmpties, HoldsAfterCall, RecordsCounted};
 
 // After set-up every inbox is empty and every record from 1 is free, in order.
 pub fn set_up_empties()

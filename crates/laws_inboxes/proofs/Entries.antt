@@ -27,8 +27,8 @@ use Rattle.store.specs.Head.{firstFree, groupSize}
 use Rattle.store.specs.Records.{recordIn}
 use Rattle.store.specs.Sound.{freeCount, messageIn}
 use Rattle.operations.proofs.Inbox.{no-fault}
-use Rattle.inbox_laws.specs.Inbox.{entryIn, entriesIn, inbox}
-use Rattle.inbox_laws.specs.Sent.{entryOf, entriesTo}
+use Rattle.laws_inboxes.specs.Inbox.{entryIn, entriesIn, inbox}
+use Rattle.laws_inboxes.specs.Sent.{entryOf, entriesTo}
 
 -- ---- lists
 

@@ -42,10 +42,10 @@ use Rattle.operations.proofs.Start.{SetUpTo, set-up-is}
 use Rattle.laws_runs.specs.Laws.{SoundGroup}
 use Rattle.laws_runs.proofs.Keeps.{Decided, group-store, group-records, store-of, all-for-group, all-read, records-are, write-decided, retry-decided, crash-decided, start-decided, deliver-decided, performed-is}
 use Rattle.laws_enabled.specs.Acting.{acted}
-use Rattle.inbox_laws.specs.Inbox.{entriesIn, inbox}
-use Rattle.inbox_laws.specs.Laws.{SetUpEmpties, HoldsAfter, HoldsAfterCall, RecordsCounted}
-use Rattle.inbox_laws.specs.Sent.{sentFor, sentByEvent, entriesTo, kept, freed}
-use Rattle.inbox_laws.proofs.Entries.{EachPut, AllRead, each-put, drop-inbox, drop-free}
+use Rattle.laws_inboxes.specs.Inbox.{entriesIn, inbox}
+use Rattle.laws_inboxes.specs.Laws.{SetUpEmpties, HoldsAfter, HoldsAfterCall, RecordsCounted}
+use Rattle.laws_inboxes.specs.Sent.{sentFor, sentByEvent, entriesTo, kept, freed}
+use Rattle.laws_inboxes.proofs.Entries.{EachPut, AllRead, each-put, drop-inbox, drop-free}
 
 module _ (n : ℕ) (table : List Node) (store : List ℕ) (G : SoundGroup n table store) where
   -- ---- a decision carried out

@@ -18,8 +18,8 @@ use Rattle.protocol.specs.declared.Event.{Event}
 use Rattle.protocol.specs.declared.Node.{Node}
 use Rattle.laws_runs.specs.Laws.{SoundGroup}
 use Rattle.laws_enabled.specs.Acting.{acted}
-use Rattle.inbox_laws.specs.Inbox.{inbox}
-use Rattle.inbox_laws.specs.Sent.{sentByEvent, entriesTo, kept, freed}
+use Rattle.laws_inboxes.specs.Inbox.{inbox}
+use Rattle.laws_inboxes.specs.Sent.{sentByEvent, entriesTo, kept, freed}
 
 -- "free chain 1, 2, .. 239; inboxes empty"
 pub record Empty (n : ℕ) (rs : List (List ℕ)) : Type 0 where

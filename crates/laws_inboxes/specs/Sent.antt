@@ -24,7 +24,7 @@ use Rattle.protocol.specs.declared.Event.{Event}
 use Rattle.protocol.specs.declared.Event.the-variants as event
 use Rattle.protocol.specs.declared.Node.{Node}
 use Rattle.protocol.specs.declared.Step.{Step}
-use Rattle.inbox_laws.specs.Inbox.{Entry, entriesIn, inbox}
+use Rattle.laws_inboxes.specs.Inbox.{Entry, entriesIn, inbox}
 
 -- the messages of one call, a place for each node number, and the items of the sender's rows
 pub record Sent : Type 0 where
