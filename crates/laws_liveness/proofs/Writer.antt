@@ -39,10 +39,10 @@ use Rattle.protocol.proofs.InView.{Shaped, size-is, size-fits}
 use Rattle.laws_enabled.proofs.Sent.{nothing-sent}
 use Rattle.laws_runs.specs.Laws.{LeavesSound}
 use Rattle.laws_runs.proofs.Keeps.{group-valid, group-table, deliver-decided}
-use Rattle.progress_laws.specs.Delivery.{Delivery, deliver, Deliver, oks, envelopeOf}
-use Rattle.progress_laws.specs.Each.{Each, Both, Distinct}
-use Rattle.progress_laws.proofs.Delivering.{Acted, delivery-as, sound-as, replaced, left-alone}
-use Rattle.progress_laws.proofs.Lists.{each-map, each-two, both-map}
+use Rattle.laws_liveness.specs.Delivery.{Delivery, deliver, Deliver, oks, envelopeOf}
+use Rattle.laws_liveness.specs.Each.{Each, Both, Distinct}
+use Rattle.laws_liveness.proofs.Delivering.{Acted, delivery-as, sound-as, replaced, left-alone}
+use Rattle.laws_liveness.proofs.Lists.{each-map, each-two, both-map}
 
 -- one more is counted
 pub count-set : (peers : List Peer) (q : ℕ) (p : Peer) → p .present ≡ true → peerOf peers q .present ≡ false → q < length peers

@@ -1,6 +1,7 @@
 // A write gets through: where its Stores, the answers, the Confirms and their answers are delivered to and from f peers that
 // are Up, it is settled. Each law is a statement of specs/ and the contract of a function that does nothing.
-ghost use Rattle.progress_laws.specs.Laws.{WriteGetsThrough, FirstWriteGetsThrough, RetryGetsThrough};
+
+ghost use Rattle.laws_liveness.specs.Laws.{WriteGetsThrough, FirstWriteGetsThrough, RetryGetsThrough};
 
 // From a sound table and store in which a write has just begun and its Stores stand in the inboxes of f peers.
 pub fn write_gets_through()

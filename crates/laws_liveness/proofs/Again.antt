@@ -28,10 +28,10 @@ use Rattle.protocol.specs.declared.Stage.the-variants.{Storing}
 use Rattle.protocol.proofs.InView.{Shaped, number-is, odd-size, size-fits}
 use Rattle.laws_node.proofs.PhaseCases.{up-cases}
 use Rattle.laws_runs.proofs.Keeps.{Decided, group-valid, group-table, retry-decided, performed-is, performs}
-use Rattle.progress_laws.specs.Laws.{Peers, BeginsAndGetsThrough, MayRetry, RetryGetsThrough}
+use Rattle.laws_liveness.specs.Laws.{Peers, BeginsAndGetsThrough, MayRetry, RetryGetsThrough}
 use Rattle.laws_enabled.specs.Acting.{rowTakes}
-use Rattle.progress_laws.proofs.Begins.{begins}
-use Rattle.progress_laws.proofs.Lists.{each-map}
+use Rattle.laws_liveness.proofs.Begins.{begins}
+use Rattle.laws_liveness.proofs.Lists.{each-map}
 
 up-not-down : (p : Phase) → isUp p ≡ true → isDown p ≡ false
 unfolding isDown

@@ -41,9 +41,9 @@ use Rattle.laws_enabled.specs.Acting.{rowTakes}
 use Rattle.laws_runs.specs.Laws.{LeavesSound, SetUpIsSound}
 use Rattle.laws_runs.proofs.Keeps.{Decided, write-decided, performed-is, performs}
 use Rattle.laws_runs.proofs.Runs.{set-up-is-sound}
-use Rattle.progress_laws.specs.Laws.{Peers, BeginsAndGetsThrough, FirstWriteGetsThrough}
-use Rattle.progress_laws.proofs.Lists.{each-map}
-use Rattle.progress_laws.proofs.Begins.{begins}
+use Rattle.laws_liveness.specs.Laws.{Peers, BeginsAndGetsThrough, FirstWriteGetsThrough}
+use Rattle.laws_liveness.proofs.Lists.{each-map}
+use Rattle.laws_liveness.proofs.Begins.{begins}
 
 -- ---- the nodes after set-up
 

@@ -33,8 +33,8 @@ use Rattle.protocol.specs.declared.Sends.{Sends}
 use Rattle.protocol.specs.declared.Step.{Step}
 use Rattle.laws_runs.specs.Laws.{LeavesSound}
 use Rattle.laws_runs.proofs.Keeps.{Decided, group-table, delivered-sound, group-store, all-for-group, records-are, deliver-decided, performed-is, performs}
-use Rattle.progress_laws.specs.Delivery.{deliver}
-use Rattle.progress_laws.proofs.Puts.{Puts, puts}
+use Rattle.laws_liveness.specs.Delivery.{deliver}
+use Rattle.laws_liveness.proofs.Puts.{Puts, puts}
 
 -- a place for each node number
 from-has : (node : Node) (s : Sends) (back k count to : ℕ) → to < count → List·Memᴰ (outgoingTo node s back (k + to)) (outgoingFrom node s back k count)

@@ -38,14 +38,14 @@ use Rattle.protocol.proofs.InView.{Shaped, number-is, size-is, size-fits}
 use Rattle.laws_runs.specs.Laws.{LeavesSound}
 use Rattle.laws_runs.proofs.Keeps.{group-valid, group-table}
 use Rattle.laws_enabled.specs.Acting.{rowTakes}
-use Rattle.progress_laws.specs.Delivery.{Delivery, Deliver, oks, envelopeOf, storeTo}
-use Rattle.progress_laws.specs.Each.{Each, Both, Distinct}
-use Rattle.progress_laws.specs.Laws.{WriteGetsThrough}
-use Rattle.progress_laws.proofs.Delivering.{Acted, out-has, replaced}
-use Rattle.progress_laws.proofs.Lists.{each-map, each-all, each-two, both-map, both-of, deliver-join, each-some, map-four}
-use Rattle.progress_laws.proofs.Peer.{Answered, all-answer}
-use Rattle.progress_laws.proofs.Stages.{MayTake, Holding, store-answer, confirm-answer, AtStoring, toConfirm, stored-taken, storing-kept, confirm-fits, AtConfirming, confirmed-taken, confirming-kept, success-fits, confirming-at, settles}
-use Rattle.progress_laws.proofs.Writer.{Tallied, tally}
+use Rattle.laws_liveness.specs.Delivery.{Delivery, Deliver, oks, envelopeOf, storeTo}
+use Rattle.laws_liveness.specs.Each.{Each, Both, Distinct}
+use Rattle.laws_liveness.specs.Laws.{WriteGetsThrough}
+use Rattle.laws_liveness.proofs.Delivering.{Acted, out-has, replaced}
+use Rattle.laws_liveness.proofs.Lists.{each-map, each-all, each-two, both-map, both-of, deliver-join, each-some, map-four}
+use Rattle.laws_liveness.proofs.Peer.{Answered, all-answer}
+use Rattle.laws_liveness.proofs.Stages.{MayTake, Holding, store-answer, confirm-answer, AtStoring, toConfirm, stored-taken, storing-kept, confirm-fits, AtConfirming, confirmed-taken, confirming-kept, success-fits, confirming-at, settles}
+use Rattle.laws_liveness.proofs.Writer.{Tallied, tally}
 
 some-half : (n : ℕ) → validSize n ≡ true → 0 < half n
 unfolding half

@@ -4,8 +4,8 @@ use native.Mathlib.Omega.{arith}
 use mathlib.Core.Path.{_≡_, sym, subst, _∙_}
 use mathlib.Core.List.{List, [], _∷_, _++_, map, map-append}
 use lib.ListN.{length}
-use Rattle.progress_laws.specs.Delivery.{Delivery, deliver, Deliver}
-use Rattle.progress_laws.specs.Each.{Each, Both}
+use Rattle.laws_liveness.specs.Delivery.{Delivery, deliver, Deliver}
+use Rattle.laws_liveness.specs.Each.{Each, Both}
 use Rattle.operations.specs.Operation.{Result}
 
 pub each-map : {A : Type 0} (P Q : A → Type 0) → ((a : A) → P a → Q a) → (l : List A) → Each P l → Each Q l

@@ -24,8 +24,8 @@ use Rattle.protocol.specs.declared.Phase.the-variants.{Up}
 use Rattle.protocol.specs.declared.Stage.the-variants.{Storing}
 use Rattle.laws_runs.specs.Laws.{LeavesSound}
 use Rattle.laws_enabled.specs.Acting.{rowTakes}
-use Rattle.progress_laws.specs.Delivery.{Delivery, Deliver, oks, storeTo, storedFrom, confirmTo, confirmedFrom}
-use Rattle.progress_laws.specs.Each.{Each, Both, Distinct}
+use Rattle.laws_liveness.specs.Delivery.{Delivery, Deliver, oks, storeTo, storedFrom, confirmTo, confirmedFrom}
+use Rattle.laws_liveness.specs.Each.{Each, Both, Distinct}
 
 -- f other nodes of the group
 pub record Peers (n x : ℕ) (peers : List ℕ) : Type 0 where

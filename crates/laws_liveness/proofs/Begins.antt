@@ -27,12 +27,12 @@ use Rattle.laws_enabled.specs.Acting.{rowTakes}
 use Rattle.laws_enabled.proofs.Sent.{others-sent}
 use Rattle.laws_runs.specs.Laws.{LeavesSound}
 use Rattle.laws_runs.proofs.Keeps.{Decided, group-valid}
-use Rattle.progress_laws.specs.Delivery.{storeTo}
-use Rattle.progress_laws.specs.Each.{Each, Both}
-use Rattle.progress_laws.specs.Laws.{Peers, HasBegun, WriteGetsThrough, BeginsAndGetsThrough}
-use Rattle.progress_laws.proofs.Delivering.{Acted, out-has, carried-acted, replaced, left-alone}
-use Rattle.progress_laws.proofs.Lists.{each-map, each-two, both-of}
-use Rattle.progress_laws.proofs.Through.{write-gets-through}
+use Rattle.laws_liveness.specs.Delivery.{storeTo}
+use Rattle.laws_liveness.specs.Each.{Each, Both}
+use Rattle.laws_liveness.specs.Laws.{Peers, HasBegun, WriteGetsThrough, BeginsAndGetsThrough}
+use Rattle.laws_liveness.proofs.Delivering.{Acted, out-has, carried-acted, replaced, left-alone}
+use Rattle.laws_liveness.proofs.Lists.{each-map, each-two, both-of}
+use Rattle.laws_liveness.proofs.Through.{write-gets-through}
 
 module _ (n x : ℕ) (low : x < n) (before : Result) (G : LeavesSound n before) (writer : Node) (D : Decided n (before .table) x x (sendStore writer))
     (storing : writer .phase ≡ Up Storing) (none : writer .counted ≡ noPeers)

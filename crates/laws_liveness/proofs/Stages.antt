@@ -40,8 +40,8 @@ use Rattle.protocol.proofs.InView.{Shaped, size-is}
 use Rattle.laws_node.proofs.Soundly.{read-sound}
 use Rattle.laws_enabled.specs.Acting.{rowTakes}
 use Rattle.laws_enabled.proofs.Sent.{nothing-sent, asked-sent}
-use Rattle.progress_laws.specs.Delivery.{envelopeOf}
-use Rattle.progress_laws.proofs.Peer.{Answering}
+use Rattle.laws_liveness.specs.Delivery.{envelopeOf}
+use Rattle.laws_liveness.proofs.Peer.{Answering}
 
 same-incarnation : (i : Incarnation) → sameIncarnation i i ≡ true
 unfolding sameIncarnation

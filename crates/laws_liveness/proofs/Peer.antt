@@ -33,10 +33,10 @@ use Rattle.protocol.proofs.InView.{Shaped, number-is, size-is, size-fits}
 use Rattle.laws_enabled.proofs.Sent.{one-sent}
 use Rattle.laws_runs.specs.Laws.{LeavesSound}
 use Rattle.laws_runs.proofs.Keeps.{group-valid}
-use Rattle.progress_laws.specs.Delivery.{Delivery, deliver, Deliver, oks, envelopeOf}
-use Rattle.progress_laws.specs.Each.{Each, Both, Distinct}
-use Rattle.progress_laws.proofs.Delivering.{Acted, out-has, delivery-as, sound-as, replaced, left-alone}
-use Rattle.progress_laws.proofs.Lists.{each-map, each-two, both-map}
+use Rattle.laws_liveness.specs.Delivery.{Delivery, deliver, Deliver, oks, envelopeOf}
+use Rattle.laws_liveness.specs.Each.{Each, Both, Distinct}
+use Rattle.laws_liveness.proofs.Delivering.{Acted, out-has, delivery-as, sound-as, replaced, left-alone}
+use Rattle.laws_liveness.proofs.Lists.{each-map, each-two, both-map}
 
 -- what node q makes of a message m of node x under incarnation i: it answers m′ under its own, and is then as Q says
 pub record Answering (x q : ℕ) (i : Incarnation) (m m′ : Message) (under : Incarnation) (Q : Node → Type 0) (node : Node) (items : List Item) : Type 0 where
