@@ -2,7 +2,7 @@
 // Everything is proved, and it has no `requires`.
 use drill_state::Position;
 use drill_state::next_line;
-use lending::operate_first;
+use on_first_nodes::operate_first;
 use protocol::Node;
 ghost use Rattle.drill_run.specs.Carried.{Carried};
 

@@ -52,7 +52,7 @@ use Rattle.protocol.proofs.Node.Laws as T′
 use Rattle.drill_state.specs.declared.Fed.{Fed}
 use Rattle.drill_state.proofs.Fed as F
 use Rattle.drill_state.proofs.Fed.Laws as F′
-use Rattle.lending.proofs.Local.{taken-apart, put-together}
+use Rattle.on_first_nodes.proofs.Local.{taken-apart, put-together}
 use Rattle.drill_state.specs.declared.line_reader.Position.{Position}
 use Rattle.drill_state.proofs.line_reader.Position as P
 use Rattle.drill_state.proofs.line_reader.Position.Laws as P′

@@ -53,10 +53,10 @@ use Rattle.drill_state.specs.Steps.{Answers}
 use Rattle.drill_state.proofs.line_reader.Position as P
 use Rattle.drill_state.proofs.line_reader.Position.Laws as P′
 use Rattle.drill_run.specs.Carried.{Carried, carried}
-use Rattle.lending.proofs.operate_first as operates
-use Rattle.lending.proofs.operate_first.Symbol as operates-def
-use Rattle.lending.proofs.operate_first.Symbol.{name as #operates}
-use Rattle.lending.proofs.operate_first.Met as operates-thm
+use Rattle.on_first_nodes.proofs.operate_first as operates
+use Rattle.on_first_nodes.proofs.operate_first.Symbol as operates-def
+use Rattle.on_first_nodes.proofs.operate_first.Symbol.{name as #operates}
+use Rattle.on_first_nodes.proofs.operate_first.Met as operates-thm
 use Rattle.drill_state.proofs.next_line as nexts
 use Rattle.drill_state.proofs.next_line.Symbol as nexts-def
 use Rattle.drill_state.proofs.next_line.Symbol.{name as #nexts}
@@ -239,5 +239,5 @@ answer-line-spec 𝓤 H 𝓜 𝓖 𝓡 =
     entered 𝓤 H (tripleOf 𝓤 H (𝓖 .A) own.signature (own.spec 𝓤 H (𝓖 .A) (𝓜 .mem) (𝓡 .run)))
     (tables 𝓤 H 𝓜 𝓡 code.env .C) (tables 𝓤 H 𝓜 𝓡 code.env .Λ) #own code.function (code.unfolded 𝓤 H 𝓜 𝓡)
     (own-meets 𝓤 H (𝓖 .A) (givenOf 𝓤 H 𝓜 𝓖) (𝓜 .mem) (𝓡 .run) (tablesOf 𝓤 H 𝓜 (tables 𝓤 H 𝓜 𝓡 code.env))
-    (cited 𝓤 H (Operate 𝓤 H (𝓖 .A) (𝓜 .mem) (𝓡 .run)) 𝓜 𝓡 code.env #operates operates-def.routine code.calls-lending·operate-first (operates-thm.met 𝓤 H 𝓜 𝓖 𝓡))
+    (cited 𝓤 H (Operate 𝓤 H (𝓖 .A) (𝓜 .mem) (𝓡 .run)) 𝓜 𝓡 code.env #operates operates-def.routine code.calls-on-first-nodes·operate-first (operates-thm.met 𝓤 H 𝓜 𝓖 𝓡))
     (cited 𝓤 H (Next 𝓤 H (𝓖 .A) (𝓜 .mem) (𝓡 .run)) 𝓜 𝓡 code.env #nexts nexts-def.routine code.calls-drill-state·next-line (nexts-thm.met 𝓤 H 𝓜 𝓖 𝓡)))

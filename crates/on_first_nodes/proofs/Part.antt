@@ -24,7 +24,7 @@ use denote.Ref.{RefT}
 use denote.Slice.{sliceVal, MutSlice, heres, Room, finally, at-slice, codedHoleys}
 use denote.Lend.{Held, lends-slice, slice-back}
 use denote.Index.{place, row, whole-out, whole-in, opens-slice, closes-slice}
-use Rattle.lending.proofs.Local.{cut, glue}
+use Rattle.on_first_nodes.proofs.Local.{cut, glue}
 
 module _ (R : RattleType) (κ κ′ : Lft) (q : Share) (γ : GName) (b o n : ℕ) where
   abbrev at-list : GName → List (R .Denot) → RefT (List (R .Denot))

@@ -1,4 +1,4 @@
--- `lending::operate` meets its contract: a walk of its MIR, by hand. Table and store are given for good to the group's `set_up`, or to its `perform`.
+-- `on_first_nodes::operate` meets its contract: a walk of its MIR, by hand. Table and store are given for good to the group's `set_up`, or to its `perform`.
 -- All that the proof knows of the callees is that they meet their contracts.
 -- Assumes nothing.
 use mathlib.Core.Path.{_≡_, refl}
@@ -54,8 +54,8 @@ use Rattle.script.proofs.Asked as Q
 use Rattle.script.proofs.Asked.Laws as Q′
 use Rattle.table.proofs.Walk.{env-of, holds, fails}
 use Rattle.table.proofs.Given.{Gives}
-use Rattle.lending.proofs.First.{begins-gives, event-gives}
-use Rattle.lending.proofs.Walk.{beginsAt, eventAt}
+use Rattle.on_first_nodes.proofs.First.{begins-gives, event-gives}
+use Rattle.on_first_nodes.proofs.Walk.{beginsAt, eventAt}
 use Rattle.group.proofs.set_up as sets
 use Rattle.group.proofs.set_up.Symbol as sets-def
 use Rattle.group.proofs.set_up.Symbol.{name as #sets}
@@ -64,11 +64,11 @@ use Rattle.group.proofs.perform as performs
 use Rattle.group.proofs.perform.Symbol as performs-def
 use Rattle.group.proofs.perform.Symbol.{name as #performs}
 use Rattle.group.proofs.perform.Met as performs-thm
-use Rattle.lending.proofs.operate.Key.{name as #own}
-use Rattle.lending.proofs.operate as own
-use Rattle.lending.proofs.operate.Statement as stated
-use Rattle.lending.proofs.operate.Code as code
-use Rattle.lending.proofs.operate.Code.Mir as body
+use Rattle.on_first_nodes.proofs.operate.Key.{name as #own}
+use Rattle.on_first_nodes.proofs.operate as own
+use Rattle.on_first_nodes.proofs.operate.Statement as stated
+use Rattle.on_first_nodes.proofs.operate.Code as code
+use Rattle.on_first_nodes.proofs.operate.Code.Mir as body
 
 abbrev stayed : Stays (own.ended .signature .params) (own.ended .kept)
 stayed = (gave-slice (0 ∷ []) tt (plain (λ _. T.the-row)), (gave-slice (1 ∷ []) tt (plain (λ _. u8)), (stay-none (λ _. Q.the-row) yes, tt)))

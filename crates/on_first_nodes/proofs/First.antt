@@ -15,7 +15,7 @@ use Rattle.protocol.specs.declared.Node.{Node}
 use Rattle.table.proofs.Given.{Gives}
 use Rattle.script.specs.declared.Asked.{Asked}
 use Rattle.script.specs.Operated.{operated, operatedFirst, putFirst}
-use Rattle.lending.specs.Lending.{firstNodes}
+use Rattle.on_first_nodes.specs.Lending.{firstNodes}
 
 pub first-few : (n held : ℕ) → firstNodes n held ≤ held
 unfolding firstNodes

@@ -1,11 +1,12 @@
 // An operation of the group as a line of a drill asks for it, over nodes that are lent, of which the first ones are the
 // group's table. Everything is proved, and no public function has a `requires`.
+
 use protocol::Answer;
 use protocol::Node;
 use script::Asked;
 ghost use mathlib.Core.Path.{_≡_};
 ghost use Rattle.script.specs.Operated.{operated, operatedFirst};
-ghost use Rattle.lending.specs.Lending.{firstNodes};
+ghost use Rattle.on_first_nodes.specs.Lending.{firstNodes};
 
 // What is asked, over the group's table.
 fn operate(table: &mut [Node], store: &mut [u8], asked: Asked) -> Answer

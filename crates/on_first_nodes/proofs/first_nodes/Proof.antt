@@ -1,8 +1,8 @@
--- `lending::first_nodes` gives `firstNodes`: one test.
+-- `on_first_nodes::first_nodes` gives `firstNodes`: one test.
 use borrow.Author.Tests.{lt-ltb, le-ltb}
-use Rattle.lending.specs.Lending.{firstNodes}
-use Rattle.lending.proofs.first_nodes.Statement.{statement}
-use Rattle.lending.proofs.first_nodes.Tie as tie
+use Rattle.on_first_nodes.specs.Lending.{firstNodes}
+use Rattle.on_first_nodes.proofs.first_nodes.Statement.{statement}
+use Rattle.on_first_nodes.proofs.first_nodes.Tie as tie
 
 returns : tie.Need-returns
 unfolding firstNodes

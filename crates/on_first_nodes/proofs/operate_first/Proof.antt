@@ -1,4 +1,4 @@
--- `lending::operate_first` meets its contract: a walk of its MIR, by hand. The first nodes are lent to `operate` as the table and come back; the store is given for good.
+-- `on_first_nodes::operate_first` meets its contract: a walk of its MIR, by hand. The first nodes are lent to `operate` as the table and come back; the store is given for good.
 -- All that the proof knows of the callees is that they meet their contracts.
 -- Assumes nothing.
 use mathlib.Core.Path.{_≡_, refl, sym, _∙_, ap}
@@ -53,26 +53,26 @@ use Rattle.protocol.proofs.Node as T
 use Rattle.protocol.proofs.Node.Laws as T′
 use Rattle.script.specs.declared.Asked.{Asked}
 use Rattle.script.specs.Operated.{operated, operatedFirst}
-use Rattle.lending.specs.Lending.{firstNodes}
+use Rattle.on_first_nodes.specs.Lending.{firstNodes}
 use Rattle.script.proofs.Asked as Q
 use Rattle.script.proofs.Asked.Laws as Q′
 use Rattle.table.proofs.Size.{nodeSize}
 use Rattle.table.proofs.Walk.{ty-of}
 use Rattle.table.proofs.Given.{Gives}
-use Rattle.lending.proofs.First.{first-few, first-gives}
-use Rattle.lending.proofs.Part.{LentPart, lends-part, part-back}
-use Rattle.lending.proofs.first_nodes as firsts
-use Rattle.lending.proofs.first_nodes.Symbol as firsts-def
-use Rattle.lending.proofs.first_nodes.Symbol.{name as #firsts}
-use Rattle.lending.proofs.first_nodes.Met as firsts-thm
-use Rattle.lending.proofs.operate as operates
-use Rattle.lending.proofs.operate.Symbol as operates-def
-use Rattle.lending.proofs.operate.Symbol.{name as #operates}
-use Rattle.lending.proofs.operate.Met as operates-thm
-use Rattle.lending.proofs.operate_first.Key.{name as #own}
-use Rattle.lending.proofs.operate_first as own
-use Rattle.lending.proofs.operate_first.Statement as stated
-use Rattle.lending.proofs.operate_first.Code as code
+use Rattle.on_first_nodes.proofs.First.{first-few, first-gives}
+use Rattle.on_first_nodes.proofs.Part.{LentPart, lends-part, part-back}
+use Rattle.on_first_nodes.proofs.first_nodes as firsts
+use Rattle.on_first_nodes.proofs.first_nodes.Symbol as firsts-def
+use Rattle.on_first_nodes.proofs.first_nodes.Symbol.{name as #firsts}
+use Rattle.on_first_nodes.proofs.first_nodes.Met as firsts-thm
+use Rattle.on_first_nodes.proofs.operate as operates
+use Rattle.on_first_nodes.proofs.operate.Symbol as operates-def
+use Rattle.on_first_nodes.proofs.operate.Symbol.{name as #operates}
+use Rattle.on_first_nodes.proofs.operate.Met as operates-thm
+use Rattle.on_first_nodes.proofs.operate_first.Key.{name as #own}
+use Rattle.on_first_nodes.proofs.operate_first as own
+use Rattle.on_first_nodes.proofs.operate_first.Statement as stated
+use Rattle.on_first_nodes.proofs.operate_first.Code as code
 
 abbrev stayed : Stays (own.ended .signature .params) (own.ended .kept)
 stayed = (stay-slice (0 ∷ []) tt (plain (λ _. T.the-row)), (gave-slice (1 ∷ []) tt (plain (λ _. u8)), (stay-none (λ _. Q.the-row) yes, tt)))
@@ -218,5 +218,5 @@ operate-first-spec 𝓤 H 𝓜 𝓖 𝓡 =
     entered 𝓤 H (tripleOf 𝓤 H (𝓖 .A) own.signature (own.spec 𝓤 H (𝓖 .A) (𝓜 .mem) (𝓡 .run)))
     (tables 𝓤 H 𝓜 𝓡 code.env .C) (tables 𝓤 H 𝓜 𝓡 code.env .Λ) #own code.function (code.unfolded 𝓤 H 𝓜 𝓡)
     (own-meets 𝓤 H (𝓖 .A) (givenOf 𝓤 H 𝓜 𝓖) (𝓜 .mem) (𝓡 .run) (tablesOf 𝓤 H 𝓜 (tables 𝓤 H 𝓜 𝓡 code.env))
-    (cited 𝓤 H (First 𝓤 H (𝓖 .A) (𝓜 .mem) (𝓡 .run)) 𝓜 𝓡 code.env #firsts firsts-def.routine code.calls-lending·first-nodes (firsts-thm.met 𝓤 H 𝓜 𝓖 𝓡))
-    (cited 𝓤 H (Operate 𝓤 H (𝓖 .A) (𝓜 .mem) (𝓡 .run)) 𝓜 𝓡 code.env #operates operates-def.routine code.calls-lending·operate (operates-thm.met 𝓤 H 𝓜 𝓖 𝓡)))
+    (cited 𝓤 H (First 𝓤 H (𝓖 .A) (𝓜 .mem) (𝓡 .run)) 𝓜 𝓡 code.env #firsts firsts-def.routine code.calls-on-first-nodes·first-nodes (firsts-thm.met 𝓤 H 𝓜 𝓖 𝓡))
+    (cited 𝓤 H (Operate 𝓤 H (𝓖 .A) (𝓜 .mem) (𝓡 .run)) 𝓜 𝓡 code.env #operates operates-def.routine code.calls-on-first-nodes·operate (operates-thm.met 𝓤 H 𝓜 𝓖 𝓡)))
