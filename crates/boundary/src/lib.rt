@@ -3,7 +3,7 @@
 // definitions of specs/ say, whatever is handed in.
 ghost use mathlib.Core.Path.{_≡_};
 ghost use Rattle.record_words.specs.Records.{bytesWritten, mayRead, mayWrite, numbersRead};
-ghost use Rattle.whole_script.specs.Script.{ScriptRun};
+ghost use Rattle.run_script.specs.Script.{ScriptRun};
 ghost use Rattle.boundary.specs.Sound.{soundFor};
 
 // Runs a drill's whole script from its beginning, over a store of its own, and prints its answers from the start of
@@ -13,7 +13,7 @@ ghost use Rattle.boundary.specs.Sound.{soundFor};
 pub extern "C" fn yagvost_run_script(script: &[u8], out: &mut [u8]) -> usize
     ensures { λ r. ⌜ ScriptRun (now (script .entry)) (now (out .exit)) r ⌝ }
 {
-    let printed = whole_script::run(script, out);
+    let printed = run_script::run(script, out);
     printed
 }
 

@@ -25,7 +25,7 @@ use Rattle.drill_state.specs.declared.Drill.{Drill}
 use Rattle.drill_state.specs.declared.Progress.{Progress}
 use Rattle.script.specs.Line.{lineOf}
 use Rattle.script.specs.Pending.{noneYet}
-use Rattle.whole_script.specs.Script.{notAll, ScriptRun}
+use Rattle.run_script.specs.Script.{notAll, ScriptRun}
 
 -- ---- how long the output may be
 

@@ -1,14 +1,14 @@
--- `whole_script::run` meets its contract: the script is one piece, and what it leaves to print is the unended last line.
+-- `run_script::run` meets its contract: the script is one piece, and what it leaves to print is the unended last line.
 use Prim.Native.Nat.{ℕ, _+_, _-_, _*_, _≤_, _<_}
 use native.Mathlib.Omega.{arith}
 use mathlib.Core.Path.{_≡_, _∙_}
 use lib.ListN.{take, replicate}
 use Rattle.record.specs.Layout.{recordSize}
 use Rattle.store.specs.Records.{recordCount}
-use Rattle.whole_script.specs.ScriptLaws.{first-of-replicate, cut-short, no-room, ended, unended}
+use Rattle.run_script.specs.ScriptLaws.{first-of-replicate, cut-short, no-room, ended, unended}
 use borrow.Author.Needs.{needs}
-use Rattle.whole_script.proofs.run.Statement.{statement}
-use Rattle.whole_script.proofs.run.Tie as tie
+use Rattle.run_script.proofs.run.Statement.{statement}
+use Rattle.run_script.proofs.run.Tie as tie
 
 -- the store that is lent holds zeros
 store-zeros : take (recordCount * recordSize) (replicate {A = ℕ} (recordCount * recordSize + 8) 0) ≡ replicate (recordCount * recordSize) 0

@@ -1,11 +1,12 @@
 // A drill's whole script, run at once over a store of its own. Everything is proved, the public function has no `requires`,
 // and what it prints is stated by specs/Script.
+
 use answers::LINE_ROOM;
 use drill_run::STORE_ROOM;
 use drill_run::feed;
 use drill_state::Progress;
 use drill_state::finish;
-ghost use Rattle.whole_script.specs.Script.{ScriptRun};
+ghost use Rattle.run_script.specs.Script.{ScriptRun};
 
 // Runs the script from its beginning, and prints its answers from the start of `out` on. Gives how many bytes were printed,
 // or the largest number where `out` has no room for all: it stops at a line that has not 72 bytes left.
