@@ -1,7 +1,7 @@
 -- `yagvost_run_script` meets its contract: it hands on what it is given, and gives what it is answered.
 use borrow.Author.Needs.{needs}
-use Rattle.boundary.proofs.yagvost_run_script.Statement.{statement}
-use Rattle.boundary.proofs.yagvost_run_script.Tie as tie
+use Rattle.host_api.proofs.yagvost_run_script.Statement.{statement}
+use Rattle.host_api.proofs.yagvost_run_script.Tie as tie
 
 run-requires : tie.Need-run-requires
 run-requires c κs = search needs

@@ -1,10 +1,11 @@
 // What a host in C or Rust calls: a small boundary of numbers and byte slices over the crates below. A slice is handed
 // over as a pointer and a length. Everything is proved, no function has a `requires`, and each gives what the
 // definitions of specs/ say, whatever is handed in.
+
 ghost use mathlib.Core.Path.{_≡_};
 ghost use Rattle.record_words.specs.Records.{bytesWritten, mayRead, mayWrite, numbersRead};
 ghost use Rattle.run_script.specs.Script.{ScriptRun};
-ghost use Rattle.boundary.specs.Sound.{soundFor};
+ghost use Rattle.host_api.specs.Sound.{soundFor};
 
 // Runs a drill's whole script from its beginning, over a store of its own, and prints its answers from the start of
 // `out` on. Gives how many bytes were printed, or the largest number where `out` has no room for all: it stops at a line

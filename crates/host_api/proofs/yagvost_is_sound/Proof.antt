@@ -1,9 +1,9 @@
 -- `yagvost_is_sound` meets its contract: what one pass finds, and its n.
 use borrow.Author.Tests.{not-true, not-false}
-use Rattle.boundary.specs.Sound.{soundFor}
+use Rattle.host_api.specs.Sound.{soundFor}
 use borrow.Author.Needs.{needs}
-use Rattle.boundary.proofs.yagvost_is_sound.Statement.{statement}
-use Rattle.boundary.proofs.yagvost_is_sound.Tie as tie
+use Rattle.host_api.proofs.yagvost_is_sound.Statement.{statement}
+use Rattle.host_api.proofs.yagvost_is_sound.Tie as tie
 
 of-requires : tie.Need-of-requires
 of-requires c κs = search needs

@@ -1,7 +1,7 @@
 -- `yagvost_write_record` meets its contract: it hands on what it is given, and gives what it is answered.
 use borrow.Author.Needs.{needs}
-use Rattle.boundary.proofs.yagvost_write_record.Statement.{statement}
-use Rattle.boundary.proofs.yagvost_write_record.Tie as tie
+use Rattle.host_api.proofs.yagvost_write_record.Statement.{statement}
+use Rattle.host_api.proofs.yagvost_write_record.Tie as tie
 
 write-record-requires : tie.Need-write-record-requires
 write-record-requires c κs = search needs
