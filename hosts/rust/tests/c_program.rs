@@ -13,7 +13,7 @@ fn the_c_program_prints_the_answers() {
         .args(["-std=c11", "-Wall", "-Wextra", "-Wpedantic", "-Werror", "-O2", "-o"])
         .arg(&program)
         .arg(hosts.join("c/example.c"))
-        .arg(hosts.join("../target/staticlib/libboundary.a"))
+        .arg(hosts.join("../target/staticlib/libhost_api.a"))
         .status()
         .expect("a C compiler");
     assert!(built.success());
