@@ -1,8 +1,8 @@
 -- `engine_runs::print_sends` is safe and ends: k goes up to the number of nodes.
 use Prim.Native.Nat.{_≤_, _-_}
 use borrow.Author.Needs.{needs}
-use Rattle.engine_runs.proofs.print_sends.Statement.{statement}
-use Rattle.engine_runs.proofs.print_sends.Tie as tie
+use Rattle.try_engine.proofs.print_sends.Statement.{statement}
+use Rattle.try_engine.proofs.print_sends.Tie as tie
 
 abbrev Inv-loop : tie.InvT-loop
 Inv-loop back node sends k₀ k = k ≤ 3

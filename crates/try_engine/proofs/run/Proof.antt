@@ -2,8 +2,8 @@
 use Prim.Native.Nat.{_≤_, _-_}
 use lib.ListN.{length}
 use borrow.Author.Needs.{needs}
-use Rattle.engine_runs.proofs.run.Statement.{statement}
-use Rattle.engine_runs.proofs.run.Tie as tie
+use Rattle.try_engine.proofs.run.Statement.{statement}
+use Rattle.try_engine.proofs.run.Tie as tie
 
 abbrev Inv-loop : tie.InvT-loop
 Inv-loop script steps₀ i₀ steps i = i ≤ length script
