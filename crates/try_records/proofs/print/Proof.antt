@@ -2,8 +2,8 @@
 use lib.ListN.{length}
 use Prim.Native.Nat.{_≤_, _-_}
 use borrow.Author.Needs.{needs}
-use Rattle.records.proofs.print.Statement.{statement}
-use Rattle.records.proofs.print.Tie as tie
+use Rattle.try_records.proofs.print.Statement.{statement}
+use Rattle.try_records.proofs.print.Tie as tie
 
 abbrev Inv-loop : tie.InvT-loop
 Inv-loop s i₀ i = i ≤ length s
