@@ -1,3 +1,1 @@
 pub mod Output
-pub mod Printing
-pub mod Examples

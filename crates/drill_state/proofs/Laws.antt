@@ -16,7 +16,7 @@ use Rattle.script.specs.Operated.{operated, operatedFirst, putFirst}
 use Rattle.script.specs.Pending.{noneYet, pushed, pendingLine}
 use Rattle.script.specs.declared.buffer.Pending.{Pending}
 use Rattle.drill_state.specs.Feeding.{pendingOutput, progressOutput, Counted}
-use Rattle.drill_state.specs.FeedingLaws.{one-byte, one-line, ends-line, line-stands, line-within, line-room, byte-kept, none-kept, counted-start, counted-byte, counted-line}
+use Rattle.drill_state.proofs.FeedingLaws.{one-byte, one-line, ends-line, line-stands, line-within, line-room, byte-kept, none-kept, counted-start, counted-byte, counted-line}
 use Rattle.drill_state.specs.Turn.{Done, answered, begun, called, lineDone, lineFor, readDone, unread}
 use Rattle.drill_state.specs.declared.Drill.{Drill}
 use Rattle.drill_state.specs.declared.Progress.{Progress}

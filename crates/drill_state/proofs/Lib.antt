@@ -1,1 +1,2 @@
+pub mod FeedingLaws
 pub mod Laws

@@ -1,6 +1,5 @@
 pub mod Turn
 pub mod Drill
 pub mod Feeding
-pub mod FeedingLaws
 pub mod Position
 pub mod Steps

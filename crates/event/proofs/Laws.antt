@@ -13,7 +13,7 @@ use Rattle.record.specs.Layout.{recordSize, recordOf, rowsOf}
 use Rattle.message.specs.declared.Reading.{Reading}
 use Rattle.message.specs.declared.Reading.the-variants.{Found, Fault}
 use Rattle.store.specs.Records.{recordCount, rightLength, recordsOf, onRecords}
-use Rattle.store.specs.Lent.{record-in}
+use Rattle.store.proofs.Lent.{record-in}
 use Rattle.store.specs.Sound.{messageAt, messageIn}
 use Rattle.store.specs.Change.{putEach, countOutgoing, dropIn}
 use Rattle.protocol.specs.Deliver.{deliverStep}

@@ -20,16 +20,16 @@ use Rattle.message.specs.declared.Reading.the-variants.{Found, Fault}
 use Rattle.record.specs.Layout.{rowsOf}
 use Rattle.store.specs.Change.{putIn, putEach, countOutgoing, emptyRecords}
 use Rattle.store.specs.Head.{firstFree, groupSize}
-use Rattle.store.specs.Locality.{put-local, length-empty, empty-reads}
+use Rattle.store.proofs.Locality.{put-local, length-empty, empty-reads}
 use Rattle.store.specs.Records.{recordCount, recordIn}
 use Rattle.store.specs.Sound.{freeCount, messageIn}
-use Rattle.store_laws.specs.Empty.{EmptyDone, numbersFrom, length-numbers, set-up-done}
-use Rattle.store_laws.specs.Leads.{freeList}
-use Rattle.store_laws.specs.Message.{message-head, message-read}
-use Rattle.store_laws.specs.OnChains.{sound-valid, free-count}
-use Rattle.store_laws.specs.Put.{PutDone, put-done, some-free}
-use Rattle.store_laws.specs.Sound.{Sound}
-use Rattle.store_laws.specs.Times.{by-same}
+use Rattle.store_laws.proofs.Empty.{EmptyDone, length-numbers, set-up-done}
+use Rattle.store_laws.specs.Lists.{numbersFrom, freeList}
+use Rattle.store_laws.proofs.Message.{message-head, message-read}
+use Rattle.store_laws.proofs.OnChains.{sound-valid, free-count}
+use Rattle.store_laws.proofs.Put.{PutDone, put-done, some-free}
+use Rattle.store_laws.proofs.Sound.{Sound}
+use Rattle.store_laws.proofs.Times.{by-same}
 use Rattle.protocol.specs.Network.{Packet}
 use Rattle.operations.proofs.Inbox as inbox
 use Rattle.examples.proofs.Fits.{fits, goes, read-rows}

@@ -17,10 +17,11 @@ use Rattle.record.specs.Kind.{fieldsOf}
 use Rattle.record.specs.declared.kinds.Fields.{Fields}
 use Rattle.record.specs.Layout.{indexSize, rowsOf}
 use Rattle.record.specs.Record.{recordBytes}
-use Rattle.record.specs.RoundTrip.{ItemFits, RowsFit, FieldsFit, Fits, ReadsBack, reads-back}
-use Rattle.store_laws.specs.Put.{ForGroup}
-use Rattle.store_laws.specs.Sound.{size-most}
-use Rattle.store_laws.specs.Widths.{for-group}
+use Rattle.record.specs.RoundTrip.{ItemFits, RowsFit, FieldsFit, Fits, ReadsBack}
+use Rattle.record.proofs.RoundTripLaws.{reads-back}
+use Rattle.store_laws.proofs.Put.{ForGroup}
+use Rattle.store_laws.proofs.Sound.{size-most}
+use Rattle.store_laws.proofs.Widths.{for-group}
 
 unfoldable pub itemFits : Item → Bool
 itemFits item = ltb (item .index .0) (256 ^ indexSize) && ltb (item .tag .0) (256 ^ tagSize)

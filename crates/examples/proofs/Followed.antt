@@ -10,7 +10,7 @@ use Rattle.item.specs.Tests.{and-left, and-right}
 use Rattle.message.specs.declared.Reading.{Reading}
 use Rattle.message.specs.declared.Reading.the-variants.{Found, Fault}
 use Rattle.store.specs.Change.{countOutgoing}
-use Rattle.store.specs.Joined.{records-joined, joined-right}
+use Rattle.store.proofs.Joined.{records-joined, joined-right}
 use Rattle.store.specs.Records.{joined}
 use Rattle.protocol.specs.Answer.{isRefused}
 use Rattle.protocol.specs.Network.{Packet}

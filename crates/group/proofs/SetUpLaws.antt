@@ -12,7 +12,7 @@ use Rattle.item.specs.Maxima.{validSize}
 use Rattle.item.specs.Tests.{and-right}
 use Rattle.record.specs.Layout.{recordSize}
 use Rattle.store.specs.Records.{recordCount, rightLength, joined, onRecords}
-use Rattle.store.specs.Lent.{unchanged}
+use Rattle.store.proofs.Lent.{unchanged}
 use Rattle.store.specs.Change.{emptyRecords, setUp}
 use Rattle.operations.specs.Operation as whole
 use Rattle.operations.specs.Operation.{Result}
@@ -23,7 +23,7 @@ use Rattle.protocol.specs.declared.Node.{Node}
 use Rattle.protocol.specs.declared.Refusal.the-variants.{GroupSize, StoreLength}
 use Rattle.protocol.proofs.InView.{size-fits}
 use Rattle.table.specs.Fill.{freshTo}
-use Rattle.table.specs.FillLaws.{fresh-all}
+use Rattle.table.proofs.FillLaws.{fresh-all}
 use Rattle.group.specs.SetUp.{notPrepared, prepared, preparedStore}
 use Rattle.group.specs.declared.preparing.Prepared.{Prepared}
 

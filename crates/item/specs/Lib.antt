@@ -3,4 +3,3 @@ pub mod Maxima
 pub mod Item
 pub mod Row
 pub mod Tests
-pub mod Laws

@@ -7,10 +7,10 @@ use mathlib.Core.List.{List}
 use lib.Dec.{eqb, ltb}
 use lib.ListN.{length}
 use borrow.Author.Tests.{ltb-true, ltb-false, lt-ltb, le-ltb}
-use Rattle.store_laws.specs.Leads.{inboxList}
-use Rattle.store_laws.specs.Message.{MessageTo, inbox-message, message-inbox}
-use Rattle.store_laws.specs.Times.{timesOn, stands-on, stands-where}
-use Rattle.endian.specs.PartLaws.{by-order}
+use Rattle.store_laws.specs.Lists.{inboxList, timesOn}
+use Rattle.store_laws.proofs.Message.{MessageTo, inbox-message, message-inbox}
+use Rattle.store_laws.proofs.Times.{stands-on, stands-where}
+use Rattle.endian.proofs.PartLaws.{by-order}
 use Rattle.item.specs.Maxima.{maxNodes, validSize}
 use Rattle.item.specs.Tests.{by-cond}
 use Rattle.record.specs.Layout.{rowsOf}

@@ -6,8 +6,8 @@ use mathlib.Core.Bool.{Bool, true, false, cond, not, _&&_}
 use lib.Dec.{eqb, ltb}
 use lib.ListN.{length}
 use borrow.Author.Tests.{lt-ltb, le-ltb, eq-eqb, ne-eqb}
-use Rattle.store_laws.specs.Times.{by-same}
-use Rattle.endian.specs.PartLaws.{by-order}
+use Rattle.store_laws.proofs.Times.{by-same}
+use Rattle.endian.proofs.PartLaws.{by-order}
 use Rattle.item.specs.Maxima.{maxNodes}
 use Rattle.item.specs.declared.counters.Attempt.{Attempt}
 use Rattle.item.specs.declared.Item.{Item}

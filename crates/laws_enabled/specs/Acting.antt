@@ -4,8 +4,7 @@ use Prim.Native.Nat.{ℕ, _-_}
 use mathlib.Core.Bool.{Bool, false, cond, not, _&&_, _||_}
 use mathlib.Core.List.{List}
 use lib.Dec.{leb, ltb}
-use Rattle.store_laws.specs.Leads.{inboxList}
-use Rattle.store_laws.specs.Times.{timesOn}
+use Rattle.store_laws.specs.Lists.{inboxList, timesOn}
 use Rattle.item.specs.Counter.{earlier, attemptAtLargest, incarnationAtLargest}
 use Rattle.item.specs.Item.{ranksBelow, sameItem}
 use Rattle.item.specs.declared.counters.Attempt.{Attempt}

@@ -6,12 +6,11 @@ use mathlib.Core.Bool.{true, false, not, false≢true}
 use mathlib.Core.List.{List, [], _++_, append-nil}
 use lib.Dec.{ltb}
 use borrow.Author.Tests.{ltb-true, ltb-false}
-use Rattle.store_laws.specs.Empty.{set-up-done}
-use Rattle.store_laws.specs.Held.{heldOn, records-counted as counted-of}
-use Rattle.store_laws.specs.Leads.{freeList, inboxList}
-use Rattle.store_laws.specs.Message.{message-inbox}
-use Rattle.store_laws.specs.Sound.{Sound, store-sound}
-use Rattle.store_laws.specs.Times.{times}
+use Rattle.store_laws.proofs.Empty.{set-up-done}
+use Rattle.store_laws.specs.Lists.{heldOn, freeList, inboxList, times}
+use Rattle.store_laws.proofs.Held.{records-counted as counted-of}
+use Rattle.store_laws.proofs.Message.{message-inbox}
+use Rattle.store_laws.proofs.Sound.{Sound, store-sound}
 use Rattle.item.specs.Tests.{by-cond}
 use Rattle.item.specs.declared.Item.{Item}
 use Rattle.record.specs.Layout.{rowsOf, heldRows}
@@ -21,8 +20,8 @@ use Rattle.message.specs.declared.Reading.{Reading}
 use Rattle.message.specs.declared.Reading.the-variants.{Found, Fault}
 use Rattle.store.specs.Change.{countOutgoing, dropIn, emptyRecords}
 use Rattle.store.specs.Head.{groupSize}
-use Rattle.store.specs.Joined.{records-count, records-joined}
-use Rattle.store.specs.Locality.{drop-local, length-empty, empty-sized}
+use Rattle.store.proofs.Joined.{records-count, records-joined}
+use Rattle.store.proofs.Locality.{drop-local, length-empty, empty-sized}
 use Rattle.store.specs.Records.{recordCount, recordsOf, recordIn, joined}
 use Rattle.store.specs.Sound.{freeCount, messageIn}
 use Rattle.operations.specs.Claim.{TagFits}

@@ -8,15 +8,15 @@ use mathlib.Core.List.{List, [], _∷_, _++_, map, map-append, append-assoc, app
 use lib.Dec.{eqb}
 use lib.ListN.{getD, drop}
 use borrow.Author.Tests.{eq-eqb, ne-eqb}
-use Rattle.store_laws.specs.Drop.{DropDone, drop-done}
-use Rattle.store_laws.specs.Leads.{freeList, inboxList}
-use Rattle.store_laws.specs.Message.{MessageTo, inbox-message, message-free, message-head}
-use Rattle.store_laws.specs.OnChains.{OnChains, sound-chains}
-use Rattle.store_laws.specs.Put.{ForGroup, PutDone, put-done, some-free}
-use Rattle.store_laws.specs.PutEach.{AllForGroup}
-use Rattle.store_laws.specs.Relinked.{inbox-once, inbox-only}
-use Rattle.store_laws.specs.Sound.{Sound}
-use Rattle.store_laws.specs.Times.{times, without, by-same, stands-head, stands-tail, times-head, times-other}
+use Rattle.store_laws.proofs.Drop.{DropDone, drop-done}
+use Rattle.store_laws.specs.Lists.{freeList, inboxList, times, without}
+use Rattle.store_laws.proofs.Message.{MessageTo, inbox-message, message-free, message-head}
+use Rattle.store_laws.proofs.OnChains.{OnChains, sound-chains}
+use Rattle.store_laws.proofs.Put.{ForGroup, PutDone, put-done, some-free}
+use Rattle.store_laws.proofs.PutEach.{AllForGroup}
+use Rattle.store_laws.proofs.Relinked.{inbox-once, inbox-only}
+use Rattle.store_laws.proofs.Sound.{Sound}
+use Rattle.store_laws.proofs.Times.{by-same, stands-head, stands-tail, times-head, times-other}
 use Rattle.item.specs.declared.Item.{Item}
 use Rattle.record.specs.Layout.{rowsOf, heldRows}
 use Rattle.message.specs.declared.Envelope.{Envelope}

@@ -1,7 +1,7 @@
 -- An inbox as the list of its messages, in the order of its chain.
 use Prim.Native.Nat.{ℕ}
 use mathlib.Core.List.{List, map}
-use Rattle.store_laws.specs.Leads.{inboxList}
+use Rattle.store_laws.specs.Lists.{inboxList}
 use Rattle.item.specs.declared.Item.{Item}
 use Rattle.record.specs.Layout.{rowsOf}
 use Rattle.message.specs.declared.Reading.{Reading}

@@ -5,9 +5,7 @@ use mathlib.Core.Path.{_≡_}
 use mathlib.Core.Bool.{true}
 use mathlib.Core.List.{List, [], _++_}
 use lib.ListN.{drop}
-use Rattle.store_laws.specs.Empty.{numbersFrom}
-use Rattle.store_laws.specs.Held.{heldOn}
-use Rattle.store_laws.specs.Leads.{freeList, inboxList}
+use Rattle.store_laws.specs.Lists.{numbersFrom, heldOn, freeList, inboxList}
 use Rattle.store.specs.Change.{countOutgoing}
 use Rattle.store.specs.Records.{recordCount, recordsOf}
 use Rattle.store.specs.Sound.{freeCount}

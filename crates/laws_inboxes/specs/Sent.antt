@@ -5,8 +5,7 @@ use mathlib.Core.Bool.{cond}
 use mathlib.Core.List.{List, [], _∷_}
 use lib.Dec.{eqb}
 use lib.ListN.{getD, drop}
-use Rattle.store_laws.specs.Leads.{inboxList}
-use Rattle.store_laws.specs.Times.{without}
+use Rattle.store_laws.specs.Lists.{inboxList, without}
 use Rattle.item.specs.declared.Item.{Item}
 use Rattle.record.specs.Layout.{rowsOf, heldRows}
 use Rattle.message.specs.declared.Envelope.{Envelope}

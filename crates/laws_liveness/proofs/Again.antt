@@ -18,7 +18,7 @@ use Rattle.protocol.specs.Node.{rowOf, ownItem, storingBegun}
 use Rattle.operations.specs.Operation.{Result, carriedOut, atNode, onSound, perform}
 use Rattle.protocol.specs.Phase.{isUp, isDown, isIdle, isFetching, atStage}
 use Rattle.protocol.specs.Table.{nodeAt}
-use Rattle.protocol.specs.TableLaws.{node-sound}
+use Rattle.protocol.proofs.TableLaws.{node-sound}
 use Rattle.protocol.specs.Write.{sendStore, retried, nothingToRetry, retryStep}
 use Rattle.protocol.specs.declared.Event.the-variants as event
 use Rattle.protocol.specs.declared.Node.{Node}

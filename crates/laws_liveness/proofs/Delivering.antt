@@ -9,7 +9,7 @@ use mathlib.Core.List.{List, List·Memᴰ, List·Memᴰ·head, List·Memᴰ·tai
 use lib.ListN.{length, getD, set}
 use lib.Seq.{getD-set-same, getD-set-other}
 use borrow.Author.Tests.{le-ltb}
-use Rattle.store_laws.specs.Sound.{store-sound}
+use Rattle.store_laws.proofs.Sound.{store-sound}
 use Rattle.item.specs.Maxima.{maxNodes}
 use Rattle.record.specs.Layout.{rowsOf}
 use Rattle.message.specs.declared.Envelope.{Envelope}
@@ -26,7 +26,7 @@ use Rattle.protocol.specs.Node.{rowItems}
 use Rattle.protocol.specs.Outgoing.{outgoing, outgoingFrom, outgoingTo}
 use Rattle.protocol.specs.Sound.{soundNode}
 use Rattle.protocol.specs.Table.{noNode, nodeAt}
-use Rattle.protocol.specs.TableLaws.{table-count}
+use Rattle.protocol.proofs.TableLaws.{table-count}
 use Rattle.protocol.specs.declared.Event.the-variants as event
 use Rattle.protocol.specs.declared.Node.{Node}
 use Rattle.protocol.specs.declared.Sends.{Sends}

@@ -9,7 +9,7 @@ use mathlib.Core.List.{List}
 use lib.ListN.{getD}
 use lib.Seq.{getD-set-same}
 use borrow.Author.Tests.{lt-ltb}
-use Rattle.store_laws.specs.Empty.{set-up-done}
+use Rattle.store_laws.proofs.Empty.{set-up-done}
 use Rattle.item.specs.Counter.{indexBelow, indexAtLargest, attemptAtLargest, nextIndex}
 use Rattle.item.specs.Item.{ranksBelow, zeroItem}
 use Rattle.item.specs.Maxima.{maxNodes, tagSize}
@@ -20,8 +20,8 @@ use Rattle.item.specs.declared.Tag.{Tag}
 use Rattle.message.specs.declared.Message.the-variants as message
 use Rattle.store.specs.Change.{emptyRecords}
 use Rattle.store.specs.Head.{groupSize}
-use Rattle.store.specs.Joined.{records-joined}
-use Rattle.store.specs.Locality.{length-empty, empty-sized}
+use Rattle.store.proofs.Joined.{records-joined}
+use Rattle.store.proofs.Locality.{length-empty, empty-sized}
 use Rattle.store.specs.Records.{recordCount, recordsOf, joined}
 use Rattle.store.specs.Sound.{freeCount}
 use Rattle.operations.specs.Claim.{TagFits}

@@ -5,12 +5,12 @@ use mathlib.Core.Path.{_≡_, refl, sym, ap, subst, _∙_}
 use mathlib.Core.Logic.{_≢_, _⊎_, inl, inr}
 use mathlib.Core.Bool.{Bool, true, false, cond, false≢true}
 use mathlib.Core.List.{List, [], _∷_, List·Memᴰ, List·Memᴰ·head, List·Memᴰ·tail, List·Memᴰ·cases-cons, List·Memᴰ·not-nil}
-use Rattle.store_laws.specs.Leads.{freeList}
-use Rattle.store_laws.specs.Message.{message-free}
-use Rattle.store_laws.specs.Put.{ForGroup, PutDone, put-done, some-free}
-use Rattle.store_laws.specs.PutEach.{AllForGroup}
-use Rattle.store_laws.specs.Sound.{Sound}
-use Rattle.store_laws.specs.Times.{times, stands-head}
+use Rattle.store_laws.specs.Lists.{freeList, times}
+use Rattle.store_laws.proofs.Message.{message-free}
+use Rattle.store_laws.proofs.Put.{ForGroup, PutDone, put-done, some-free}
+use Rattle.store_laws.proofs.PutEach.{AllForGroup}
+use Rattle.store_laws.proofs.Sound.{Sound}
+use Rattle.store_laws.proofs.Times.{stands-head}
 use Rattle.item.specs.declared.Item.{Item}
 use Rattle.message.specs.declared.Envelope.{Envelope}
 use Rattle.message.specs.declared.Outgoing.{Outgoing}

@@ -7,7 +7,7 @@ use mathlib.Core.Bool.{true, false}
 use mathlib.Core.List.{List, [], _∷_, _++_, map}
 use lib.ListN.{length}
 use borrow.Author.Tests.{lt-ltb}
-use Rattle.store_laws.specs.Sound.{size-least}
+use Rattle.store_laws.proofs.Sound.{size-least}
 use Rattle.item.specs.Maxima.{maxNodes, validSize}
 use Rattle.item.specs.Tests.{and-both}
 use Rattle.item.specs.declared.counters.Attempt.{Attempt}
@@ -26,7 +26,7 @@ use Rattle.protocol.specs.Phase.{isUp, atStage}
 use Rattle.protocol.specs.Sound.{soundNode}
 use Rattle.protocol.specs.Storing.{sendConfirm, storeSuccess}
 use Rattle.protocol.specs.Table.{nodeAt}
-use Rattle.protocol.specs.TableLaws.{node-sound}
+use Rattle.protocol.proofs.TableLaws.{node-sound}
 use Rattle.protocol.specs.declared.Answer.{Answer}
 use Rattle.protocol.specs.declared.Answer.the-variants as answer
 use Rattle.protocol.specs.declared.Node.{Node}

@@ -27,7 +27,7 @@ use Rattle.protocol.specs.Outgoing.{outgoing}
 use Rattle.protocol.specs.Sound.{soundNode}
 use Rattle.protocol.specs.Storing.{isCounted}
 use Rattle.protocol.specs.Table.{nodeAt}
-use Rattle.protocol.specs.TableLaws.{node-sound}
+use Rattle.protocol.proofs.TableLaws.{node-sound}
 use Rattle.protocol.specs.declared.Answer.{Answer}
 use Rattle.protocol.specs.declared.Answer.the-variants as answer
 use Rattle.protocol.specs.declared.Node.{Node}

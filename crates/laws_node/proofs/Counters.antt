@@ -6,7 +6,7 @@ use mathlib.Core.Path.{_≡_, refl, sym, ap}
 use mathlib.Core.Bool.{true, false, false≢true}
 use mathlib.Core.List.{List}
 use Rattle.item.specs.Counter.{nextIncarnation, incarnationAtLargest, nextAttempt, attemptAtLargest}
-use Rattle.item.specs.Laws.{next-incarnation, same-attempt}
+use Rattle.item.proofs.Laws.{next-incarnation, same-attempt}
 use Rattle.item.specs.Tests.{by-cond, and-left, and-right}
 use Rattle.item.specs.declared.counters.Attempt.{Attempt}
 use Rattle.item.specs.declared.counters.Incarnation.{Incarnation}

@@ -9,7 +9,7 @@ use lib.ListN.{length, getD}
 use borrow.Author.Tests.{ltb-false, lt-ltb}
 use Rattle.item.specs.Counter.{sameIncarnation, sameAttempt, indexBelow}
 use Rattle.item.specs.Item.{zeroItem, ranksBelow, sameItem, tagsAgree}
-use Rattle.item.specs.Laws.{same-row}
+use Rattle.item.proofs.Laws.{same-row}
 use Rattle.item.specs.Row.{zeroRow, sameRow}
 use Rattle.item.specs.Tests.{by-cond, and-left, and-right, and-both}
 use Rattle.item.specs.declared.counters.Attempt.{Attempt}

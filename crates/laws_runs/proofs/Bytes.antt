@@ -5,7 +5,7 @@ use mathlib.Core.List.{List, [], _∷_, _++_}
 use lib.Dec.{leb, eqb}
 use lib.ListN.{length, take, drop, set}
 use Rattle.endian.specs.Number.{bytes, withNumber, AreBytes}
-use Rattle.endian.specs.NumberLaws.{bytes-take, bytes-drop}
+use Rattle.endian.proofs.NumberLaws.{bytes-take, bytes-drop}
 use Rattle.endian.specs.Part.{withPart}
 use Rattle.endian.specs.Zero.{zeros}
 use Rattle.item.specs.Maxima.{tagSize}

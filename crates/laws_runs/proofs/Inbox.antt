@@ -7,7 +7,7 @@ use mathlib.Core.Bool.{true}
 use mathlib.Core.List.{List}
 use Rattle.message.specs.declared.Envelope.{Envelope}
 use Rattle.message.specs.declared.Reading.the-variants.{Found}
-use Rattle.store_laws.specs.Message.{MessageTo, inbox-message, message-inbox}
+use Rattle.store_laws.proofs.Message.{MessageTo, inbox-message, message-inbox}
 use Rattle.store.specs.Head.{groupSize}
 use Rattle.store.specs.Sound.{soundRecords, messageIn}
 

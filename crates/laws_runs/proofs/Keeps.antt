@@ -17,21 +17,22 @@ use Rattle.record.specs.Layout.{rowsOf, heldRows}
 use Rattle.message.specs.declared.Envelope.{Envelope}
 use Rattle.message.specs.declared.Outgoing.{Outgoing}
 use Rattle.record.specs.Record.{readRecord, recordBytes}
-use Rattle.record.specs.RoundTrip.{Fits, RowsFit, ReadsBack, reads-back}
+use Rattle.record.specs.RoundTrip.{Fits, RowsFit, ReadsBack}
+use Rattle.record.proofs.RoundTripLaws.{reads-back}
 use Rattle.message.specs.declared.Reading.{Reading}
 use Rattle.message.specs.declared.Reading.the-variants.{Found, Fault}
 use Rattle.store.specs.Change.{putEach, countOutgoing, dropIn}
 use Rattle.store.specs.Head.{groupSize}
-use Rattle.store.specs.Locality.{put-each-local, drop-local}
+use Rattle.store.proofs.Locality.{put-each-local, drop-local}
 use Rattle.store.specs.Records.{rightLength, recordsOf, joined, recordIn}
 use Rattle.store.specs.Sound.{soundRecords, soundStore, freeCount, messageIn}
-use Rattle.store_laws.specs.Drop.{DropDone, drop-done}
-use Rattle.store_laws.specs.Message.{message-inbox}
-use Rattle.store_laws.specs.OnChains.{sound-valid}
-use Rattle.store_laws.specs.Put.{ForGroup}
-use Rattle.store_laws.specs.PutEach.{AllForGroup, put-each-done}
-use Rattle.store_laws.specs.Sound.{store-right, store-sound}
-use Rattle.store_laws.specs.Widths.{for-group}
+use Rattle.store_laws.proofs.Drop.{DropDone, drop-done}
+use Rattle.store_laws.proofs.Message.{message-inbox}
+use Rattle.store_laws.proofs.OnChains.{sound-valid}
+use Rattle.store_laws.proofs.Put.{ForGroup}
+use Rattle.store_laws.proofs.PutEach.{AllForGroup, put-each-done}
+use Rattle.store_laws.proofs.Sound.{store-right, store-sound}
+use Rattle.store_laws.proofs.Widths.{for-group}
 use Rattle.operations.specs.Claim.{TagFits}
 use Rattle.protocol.specs.Deliver.{deliverStep}
 use Rattle.operations.specs.Operation.{refuse, sentBy, carriedOut, atNode, dropped, delivered, onSound, onRecords, perform}
@@ -40,7 +41,7 @@ use Rattle.protocol.specs.Node.{rowItems}
 use Rattle.protocol.specs.Outgoing.{outgoing}
 use Rattle.protocol.specs.Sound.{soundNode}
 use Rattle.protocol.specs.Table.{noNode, nodeAt, soundTable}
-use Rattle.protocol.specs.TableLaws.{table-count, every-sound, node-sound}
+use Rattle.protocol.proofs.TableLaws.{table-count, every-sound, node-sound}
 use Rattle.protocol.specs.Write.{writeStep, retryStep, crashStep, startStep}
 use Rattle.protocol.specs.declared.Answer.{Answer}
 use Rattle.protocol.specs.declared.Event.{Event}

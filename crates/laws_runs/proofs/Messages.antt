@@ -10,9 +10,9 @@ use lib.ListN.{length, take, drop, getD, List·getD-eq-default}
 use lib.Seq.{drop-drop}
 use borrow.Author.Tests.{eqb-true}
 use Rattle.endian.specs.Number.{value, numberAt, AreBytes}
-use Rattle.endian.specs.NumberLaws.{value-fits, bytes-take, bytes-drop}
+use Rattle.endian.proofs.NumberLaws.{value-fits, bytes-take, bytes-drop}
 use Rattle.endian.specs.Part.{part, whole}
-use Rattle.endian.specs.PartLaws.{by-order}
+use Rattle.endian.proofs.PartLaws.{by-order}
 use Rattle.endian.specs.Zero.{allZero}
 use Rattle.item.specs.Counter.{sameIncarnation}
 use Rattle.item.specs.Item.{zeroItem}
@@ -24,7 +24,7 @@ use Rattle.record.specs.declared.kinds.Known.{Known}
 use Rattle.record.specs.declared.kinds.Known.the-variants as known
 use Rattle.record.specs.Kind.{storeKind, storedKind, confirmKind, confirmedKind, fetchKind, tableKind, noIncarnation, noWrite, messageOf, rowsHeld, otherOf, attemptOf, itemOf}
 use Rattle.record.specs.Layout.{recordSize, incarnationAt, otherAt, attemptAt, itemAt, rowsAt, indexSize, rowSize, itemIn, itemsIn, fieldsIn, rowsOf}
-use Rattle.record.specs.LayoutLaws.{length-items, getD-items}
+use Rattle.record.proofs.LayoutLaws.{length-items, getD-items}
 use Rattle.message.specs.declared.Envelope.{Envelope}
 use Rattle.message.specs.declared.Message.{Message}
 use Rattle.message.specs.declared.Message.the-variants as message

@@ -11,11 +11,11 @@ use Rattle.item.specs.Maxima.{maxNodes, validSize}
 use Rattle.item.specs.Row.{zeroRow}
 use Rattle.item.specs.Tests.{and-both}
 use Rattle.store.specs.Change.{emptyRecords}
-use Rattle.store.specs.Joined.{records-joined}
-use Rattle.store.specs.Locality.{length-empty, empty-sized}
+use Rattle.store.proofs.Joined.{records-joined}
+use Rattle.store.proofs.Locality.{length-empty, empty-sized}
 use Rattle.store.specs.Records.{recordCount, recordsOf, joined}
 use Rattle.store.specs.Sound.{soundRecords, soundStore}
-use Rattle.store_laws.specs.Empty.{set-up-done}
+use Rattle.store_laws.proofs.Empty.{set-up-done}
 use Rattle.protocol.specs.Answer.{refusalNumber}
 use Rattle.operations.specs.Claim.{TagsFit}
 use Rattle.protocol.specs.Node.{blankNode, freshNode, writeEnded, countPeers}

@@ -9,7 +9,7 @@ use lib.Dec.{eqb}
 use lib.ListN.{length, getD, set, replicate, getD-replicate, List·getD-eq-default, length-replicate}
 use lib.Seq.{getD-set-same, getD-set-other, set-out}
 use borrow.Author.Tests.{eqb-true, eqb-false}
-use Rattle.endian.specs.PartLaws.{by-order}
+use Rattle.endian.proofs.PartLaws.{by-order}
 use Rattle.item.specs.Counter.{largest, indexAtLargest, nextIndex, incarnationAtLargest, nextIncarnation, attemptAtLargest, nextAttempt}
 use Rattle.item.specs.Item.{zeroItem, ranksBelow, sameItem}
 use Rattle.item.specs.Maxima.{maxNodes, tagSize}

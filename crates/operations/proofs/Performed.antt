@@ -17,7 +17,7 @@ use Rattle.message.specs.declared.Reading.{Reading}
 use Rattle.message.specs.declared.Reading.the-variants.{Found, Fault}
 use Rattle.store.specs.Change.{dropIn}
 use Rattle.store.specs.Head.{groupSize}
-use Rattle.store.specs.Locality.{Reads, drop-local, drop-reads}
+use Rattle.store.proofs.Locality.{Reads, drop-local, drop-reads}
 use Rattle.store.specs.Records.{rightLength, recordsOf, joined, recordIn}
 use Rattle.store.specs.Sound.{soundRecords, messageIn}
 use Rattle.operations.specs.Claim.{TagFits}

@@ -17,13 +17,14 @@ use Rattle.message.specs.declared.Outgoing.{Outgoing}
 use Rattle.record.specs.Layout.{recordSize, rowsOf}
 use Rattle.message.specs.Rows.{heldRows}
 use Rattle.record.specs.Record.{readRecord, recordBytes}
-use Rattle.record.specs.RoundTrip.{ItemFits, Fits, ReadsBack, reads-back}
+use Rattle.record.specs.RoundTrip.{ItemFits, Fits, ReadsBack}
+use Rattle.record.proofs.RoundTripLaws.{reads-back}
 use Rattle.message.specs.declared.Reading.{Reading}
 use Rattle.message.specs.declared.Reading.the-variants.{Found}
 use Rattle.store.specs.Change.{putEach, countOutgoing}
 use Rattle.store.specs.Head.{groupSize}
-use Rattle.store.specs.Joined.{Sized, records-count, records-sized, records-joined, joined-right}
-use Rattle.store.specs.Locality.{Local, Reads, ReadsOne, put-each-local, put-each-reads}
+use Rattle.store.proofs.Joined.{Sized, records-count, records-sized, records-joined, joined-right}
+use Rattle.store.proofs.Locality.{Local, Reads, ReadsOne, put-each-local, put-each-reads}
 use Rattle.store.specs.Records.{recordCount, rightLength, recordsOf, joined, recordIn}
 use Rattle.store.specs.Sound.{freeCount}
 use Rattle.protocol.specs.Network.{Packet, Network, packetOf, packetsOf, networkAfter, Decides, Next, host-refuses, node-refuses, acts}

@@ -11,8 +11,8 @@ use Rattle.item.specs.Tests.{by-cond, and-left}
 use Rattle.returns.specs.View.{clash}
 use Rattle.store.specs.Change.{emptyRecords}
 use Rattle.store.specs.Head.{groupSize}
-use Rattle.store.specs.Joined.{records-joined, joined-right}
-use Rattle.store.specs.Locality.{length-empty, empty-sized, empty-size, empty-reads}
+use Rattle.store.proofs.Joined.{records-joined, joined-right}
+use Rattle.store.proofs.Locality.{length-empty, empty-sized, empty-size, empty-reads}
 use Rattle.store.specs.Records.{recordCount, rightLength, recordsOf, joined}
 use Rattle.protocol.specs.Node.{blankNode, freshNode}
 use Rattle.operations.specs.Operation.{Result, setUp, refuse}

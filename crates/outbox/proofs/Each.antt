@@ -7,8 +7,8 @@ use Rattle.item.specs.declared.Item.{Item}
 use Rattle.item.specs.Tests.{by-cond}
 use Rattle.message.specs.declared.Outgoing.{Outgoing}
 use Rattle.store.specs.Records.{rightLength, recordsOf, joined, onRecords}
-use Rattle.store.specs.Joined.{records-count, records-sized, joined-records, right-after}
-use Rattle.store.specs.Locality.{Local, local-after, put-local}
+use Rattle.store.proofs.Joined.{records-count, records-sized, joined-records, right-after}
+use Rattle.store.proofs.Locality.{Local, local-after, put-local}
 use Rattle.store.specs.Change.{putIn, putEach}
 
 -- ---- one change of the records after another, in the bytes

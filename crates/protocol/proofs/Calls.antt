@@ -9,7 +9,7 @@ use lib.Dec.{eqb}
 use borrow.Author.Tests.{eqb-true, eqb-false}
 use Rattle.item.specs.Counter.{incarnationAtLargest, attemptAtLargest, indexAtLargest, nextIndex}
 use Rattle.item.specs.Item.{itemAbove}
-use Rattle.item.specs.Laws.{next-index, next-incarnation, next-attempt}
+use Rattle.item.proofs.Laws.{next-index, next-incarnation, next-attempt}
 use Rattle.item.specs.Tests.{by-cond}
 use Rattle.item.specs.declared.Item.{Item}
 use Rattle.item.specs.declared.Row.{Row}

@@ -7,7 +7,7 @@ use mathlib.Core.Logic.{_≢_}
 use mathlib.Core.Bool.{true, _&&_}
 use mathlib.Core.List.{List}
 use borrow.Author.Tests.{ltb-false, eq-eqb, ne-eqb}
-use Rattle.item.specs.Laws.{same-incarnation}
+use Rattle.item.proofs.Laws.{same-incarnation}
 use Rattle.item.specs.Tests.{by-cond, and-left, and-right}
 use Rattle.item.specs.declared.counters.Attempt.{Attempt}
 use Rattle.item.specs.declared.counters.Incarnation.{Incarnation}

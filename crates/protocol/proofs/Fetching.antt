@@ -9,7 +9,7 @@ use lib.ListN.{length, getD, List·getD-map}
 use borrow.Author.Tests.{eqb-true, ltb-false}
 use Rattle.item.specs.Counter.{sameIncarnation}
 use Rattle.item.specs.Item.{zeroItem}
-use Rattle.item.specs.Laws.{same-incarnation}
+use Rattle.item.proofs.Laws.{same-incarnation}
 use Rattle.item.specs.Maxima.{maxNodes}
 use Rattle.item.specs.Row.{zeroRow}
 use Rattle.item.specs.declared.counters.Incarnation.{Incarnation}

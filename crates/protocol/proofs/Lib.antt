@@ -1,3 +1,4 @@
+pub mod TableLaws
 pub mod Seen
 pub mod InView
 pub mod Phases

@@ -13,7 +13,7 @@ use Rattle.item.specs.Maxima.{maxNodes}
 use Rattle.item.specs.Tests.{by-cond}
 use Rattle.item.specs.declared.Item.{Item}
 use Rattle.message.specs.Rows.{rowsHeld, heldRows}
-use Rattle.message.specs.RowsLaws.{length-padded, getD-padded}
+use Rattle.message.proofs.RowsLaws.{length-padded, getD-padded}
 use Rattle.message.specs.declared.Message.{Message}
 use Rattle.message.specs.declared.Message.the-variants as message
 use Rattle.message.specs.declared.Outgoing.{Outgoing}

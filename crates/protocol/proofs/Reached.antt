@@ -11,7 +11,7 @@ use Rattle.item.specs.Maxima.{maxNodes, validSize}
 use Rattle.item.specs.declared.Item.{Item}
 use Rattle.returns.specs.History.{History, atSetUp, afterNote, May}
 use Rattle.returns.specs.Invariant.{Invariant}
-use Rattle.returns.specs.Returns.{SetUp, call-kept, invariant-set-up}
+use Rattle.returns.proofs.Returns.{SetUp, call-kept, invariant-set-up}
 use Rattle.returns.specs.View.{clash}
 use Rattle.protocol.specs.Call.{Call, lastAfter, lastFrom, lastItem, begunAt, begunFrom, begun}
 use Rattle.protocol.specs.Network.{Network, Next, Run, freshNetwork}

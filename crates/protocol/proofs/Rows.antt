@@ -11,7 +11,7 @@ use lib.ListN.{length, getD, set, replicate}
 use lib.Seq.{getD-set-same, getD-set-other}
 use borrow.Author.Tests.{eqb-true, eqb-false}
 use Rattle.item.specs.Item.{zeroItem, ranksBelow, sameItem}
-use Rattle.item.specs.Laws.{same-item}
+use Rattle.item.proofs.Laws.{same-item}
 use Rattle.item.specs.Maxima.{maxNodes}
 use Rattle.item.specs.Row.{zeroRow}
 use Rattle.item.specs.Tests.{by-cond}
@@ -83,7 +83,7 @@ merge-merged v row first r same-item same-mark none =
     (λ up. by-cond P (ranksBelow r (row .item)) _ _ (λ low. rw (← same-item, ← same-mark) (merged-lower v r (rw same-item low)))
     (λ low. by-cond P (sameItem r (row .item)) _ _
     (λ alike. rw (← same-item, ← same-mark) (merged-level v r (v .marked) (rw same-item up) (rw same-item low) (λ m. m)
-    (λ m. Rattle.item.specs.Laws.same-item r (v .item) (rw same-item alike))))
+    (λ m. Rattle.item.proofs.Laws.same-item r (v .item) (rw same-item alike))))
     (λ alike. rw (← same-item) (merged-level v r true (rw same-item up) (rw same-item low)
     (λ m. absurd (false≢true (sym m))) (λ m. absurd (false≢true (sym m))))))))
   where

@@ -8,7 +8,7 @@ use mathlib.Core.Bool.{true, false}
 use mathlib.Core.List.{List}
 use lib.ListN.{length}
 use Rattle.item.specs.Item.{ranksBelow, sameItem}
-use Rattle.item.specs.Laws.{same-incarnation, same-attempt, same-item}
+use Rattle.item.proofs.Laws.{same-incarnation, same-attempt, same-item}
 use Rattle.item.specs.Tests.{and-left, and-right}
 use Rattle.item.specs.declared.counters.Attempt.{Attempt}
 use Rattle.item.specs.declared.counters.Incarnation.{Incarnation}

@@ -9,7 +9,6 @@ pub mod Deliver
 pub mod Outgoing
 pub mod Sound
 pub mod Table
-pub mod TableLaws
 pub mod Call
 pub mod Network
 pub mod Claim

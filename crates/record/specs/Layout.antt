@@ -10,8 +10,6 @@ use Rattle.item.specs.declared.Item.{Item}
 unfoldable pub use Rattle.message.specs.Rows.{padded, heldRows}
 use Rattle.endian.specs.Number.{bytes, numberAt}
 use Rattle.record.specs.declared.kinds.Fields.{Fields}
-use Prim.Native.Nat.{ℕ}
-use mathlib.Core.List.{List}
 use Rattle.record.specs.Chunk.{chunk, withChunk}
 
 -- "240 records of 272 bytes"

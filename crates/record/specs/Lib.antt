@@ -1,9 +1,5 @@
 pub mod Kind
-pub mod KindLaws
 pub mod Layout
-pub mod LayoutLaws
 pub mod Chunk
-pub mod ChunkLaws
 pub mod Record
-pub mod RecordLaws
 pub mod RoundTrip

@@ -8,9 +8,9 @@ use lib.Seq.{getD-set-same, getD-set-other, ext-getD}
 use Rattle.item.specs.Maxima.{maxNodes}
 use Rattle.item.specs.Item.{zeroItem}
 use Rattle.item.specs.declared.Item.{Item}
-use Rattle.endian.specs.PartLaws.{by-order}
+use Rattle.endian.proofs.PartLaws.{by-order}
 use Rattle.record.specs.Layout.{rowsAt, rowSize, itemIn, rowsOf}
-use Rattle.record.specs.LayoutLaws.{length-items, getD-items}
+use Rattle.record.proofs.LayoutLaws.{length-items, getD-items}
 
 unfoldable pub Passed : List ℕ → ℕ → List Item → Type 0
 Passed r j items = (k : ℕ) → k < j → getD items k zeroItem ≡ itemIn r (rowsAt + k * rowSize)

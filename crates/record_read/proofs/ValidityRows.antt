@@ -10,7 +10,7 @@ use lib.ListN.{length, drop}
 use borrow.Author.Tests.{eq-eqb, ne-eqb}
 use Rattle.endian.specs.Number.{numberAt}
 use Rattle.endian.specs.Zero.{allZero}
-use Rattle.endian.specs.ZeroLaws.{zero-from}
+use Rattle.endian.proofs.ZeroLaws.{zero-from}
 use Rattle.record.specs.Layout.{recordSize, rowsAt, rowSize, indexSize}
 
 module _ (r : List ℕ) (long : length r ≡ recordSize) (held : ℕ) (none : held ≡ 0) where

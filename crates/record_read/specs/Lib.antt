@@ -1,4 +1,3 @@
 pub mod Known
 pub mod Readable
-pub mod ReadableLaws
 pub mod Ends

@@ -8,7 +8,7 @@ use lib.Seq.{length-take-le, set-at, drop-cons, append-snoc}
 use Rattle.item.specs.Item.{zeroItem}
 use Rattle.item.specs.declared.Item.{Item}
 use Rattle.record.specs.Layout.{padded}
-use Rattle.record.specs.LayoutLaws.{length-padded, padded-all, padded-more}
+use Rattle.record.proofs.LayoutLaws.{length-padded, padded-all, padded-more}
 
 pub padded-start : (k : ℕ) (items : List Item) → k ≤ length items → items ≡ padded k (take k items) ++ drop k items
 padded-start k items h =

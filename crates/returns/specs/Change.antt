@@ -16,8 +16,7 @@ use Rattle.returns.specs.Replace.{replaced, replaced-each}
 use Rattle.returns.specs.Majority.{count, groupSize}
 use Rattle.returns.specs.Rank.{Above}
 use Rattle.returns.specs.History.{Note, quiet, begins, settles, returns}
-use Rattle.returns.specs.View.{down, fetching, returning, up, idle, storing, confirming, ViewNode, ViewMessage}
-use Rattle.returns.specs.View.{storeTo, storedBy, confirmTo, confirmedBy, fetchFrom, tableFrom, View, live, put, Sent, Each}
+use Rattle.returns.specs.View.{down, fetching, returning, up, idle, storing, confirming, ViewNode, ViewMessage, storeTo, storedBy, confirmTo, confirmedBy, fetchFrom, tableFrom, View, live, put, Sent, Each}
 use Rattle.returns.specs.Merge.{Merged}
 
 -- w begins to store: nothing is counted yet

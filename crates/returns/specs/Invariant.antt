@@ -10,8 +10,7 @@ use Rattle.returns.specs.Replace.{replaced}
 use Rattle.returns.specs.Majority.{count, groupSize}
 use Rattle.returns.specs.Rank.{Above}
 use Rattle.returns.specs.History.{History}
-use Rattle.returns.specs.View.{down, fetching, returning, up, idle, storing, confirming, ViewNode, ViewMessage}
-use Rattle.returns.specs.View.{storeTo, storedBy, confirmTo, confirmedBy, fetchFrom, tableFrom, View, live, Sent, Each}
+use Rattle.returns.specs.View.{down, fetching, returning, up, idle, storing, confirming, ViewNode, ViewMessage, storeTo, storedBy, confirmTo, confirmedBy, fetchFrom, tableFrom, View, live, Sent, Each}
 use Rattle.returns.specs.Quorum.{Held}
 
 -- an item of x that may stand in a row or a message

@@ -7,10 +7,3 @@ pub mod Merge
 pub mod Change
 pub mod Quorum
 pub mod Invariant
-pub mod NodeSteps
-pub mod Items
-pub mod Own
-pub mod Confirming
-pub mod Messages
-pub mod Returns
-pub mod Example

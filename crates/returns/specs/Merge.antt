@@ -5,7 +5,7 @@ use mathlib.Core.Logic.{_⊎_, inl, inr}
 use mathlib.Core.Bool.{Bool, true, false, false≢true}
 use Rattle.item.specs.declared.Item.{Item}
 use Rattle.item.specs.Item.{ranksBelow}
-use Rattle.item.specs.Laws.{rank-above-trans}
+use Rattle.item.proofs.Laws.{rank-above-trans}
 use Rattle.returns.specs.Rank.{Above, Covers, covers-above, covers-ranks}
 use Rattle.returns.specs.View.{ViewNode}
 

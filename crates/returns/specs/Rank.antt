@@ -7,7 +7,7 @@ use mathlib.Core.Logic.{_⊎_, inl, inr}
 use mathlib.Core.Bool.{Bool, true, false, false≢true}
 use Rattle.item.specs.declared.Item.{Item}
 use Rattle.item.specs.Item.{ranksBelow}
-use Rattle.item.specs.Laws.{below-less, rank-self, rank-above-trans, rank-one-way, rank-index, index-rank}
+use Rattle.item.proofs.Laws.{below-less, rank-self, rank-above-trans, rank-one-way, rank-index, index-rank}
 
 rank-higher : (i j : Item) → ranksBelow i j ≡ true → i .index .0 < j .index .0
 unfolding ranksBelow

@@ -2,11 +2,6 @@ pub mod Bytes
 pub mod Number
 pub mod Digits
 pub mod Place
-pub mod NumberReading
-pub mod Writing
 pub mod Line
-pub mod Reading
-pub mod Examples
 pub mod Operated
 pub mod Pending
-pub mod Gathered

@@ -11,14 +11,14 @@ use lib.Seq.{take-at, drop-at, drop-cons, take-suc, append-snoc, length-take-le,
 use Rattle.endian.specs.Part.{withPart}
 use Rattle.endian.specs.Number.{bytes, withNumber}
 use Rattle.endian.specs.Zero.{zeros}
-use Rattle.endian.specs.ZeroLaws.{length-zeros}
+use Rattle.endian.proofs.ZeroLaws.{length-zeros}
 use Rattle.record.specs.Chunk.{cut}
 use Rattle.record.specs.Layout.{recordSize}
 use Rattle.record.specs.Record.{withNext, noRecord}
 use Rattle.store.specs.Records.{recordCount, recordsOf, recordIn}
 use Rattle.store.specs.Head.{sizeAt, withFirstFree}
 use Rattle.store.specs.Change.{withNextIn, freeRecords, emptyHead, emptyRecords}
-use Rattle.store.specs.Locality.{length-free-records}
+use Rattle.store.proofs.Locality.{length-free-records}
 use Rattle.store_change.specs.Linked.{linkedRecords}
 
 -- ---- zero bytes

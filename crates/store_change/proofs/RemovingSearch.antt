@@ -8,10 +8,10 @@ use native.Mathlib.Omega.{arith}
 use borrow.Author.Tests.{eq-eqb, ne-eqb}
 use lib.ListN.{length, set}
 use lib.Seq.{set-set, set-out}
-use Rattle.endian.specs.PartLaws.{by-order}
+use Rattle.endian.proofs.PartLaws.{by-order}
 use Rattle.record.specs.Record.{withNext, noRecord}
 use Rattle.store.specs.Change.{withNextIn}
-use Rattle.store.specs.Locality.{set-same}
+use Rattle.store.proofs.Locality.{set-same}
 use Rattle.store.specs.Chain.{nextIn, beforeFrom}
 
 module _ (rs : List (List ℕ)) (i next : ℕ) (en : next ≡ nextIn rs i) where

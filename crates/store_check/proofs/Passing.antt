@@ -13,8 +13,8 @@ use Rattle.store.specs.declared.Walked.{Walked}
 use Rattle.store.specs.declared.Survey.{Survey}
 use Rattle.store.specs.declared.chain.Chain.the-variants.{Free, Inbox}
 use Rattle.store.specs.Records.{recordCount, recordsOf}
-use Rattle.store.specs.Joined.{records-count}
-use Rattle.store.specs.Lent.{right, followed-in}
+use Rattle.store.proofs.Joined.{records-count}
+use Rattle.store.proofs.Lent.{right, followed-in}
 use Rattle.store.specs.Head.{groupSize, firstFree, firstOf, headZero}
 use Rattle.store.specs.Chain.{walk}
 use Rattle.store.specs.Sound.{belongsTo, belongsOn, followed, walkInboxes, walkFree, headPassed, allPassed, allOnChains, soundRecords, freeCount, unsound, surveyOf, survey}

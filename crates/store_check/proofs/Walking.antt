@@ -12,7 +12,7 @@ use lib.Dec.{eqb}
 use lib.ListN.{length, getD, set}
 use Rattle.record.specs.Layout.{recordSize, recordOf, nextOf}
 use Rattle.store.specs.Records.{recordCount, recordsOf}
-use Rattle.store.specs.Lent.{record-in}
+use Rattle.store.proofs.Lent.{record-in}
 use Rattle.store.specs.Chain.{nextIn, walked, walk}
 use Rattle.store.specs.Sound.{belongsTo, belongsOn}
 use Rattle.store.specs.declared.chain.Chain.the-variants.{Free, Inbox}

@@ -1,16 +1,1 @@
-pub mod Times
-pub mod Leads
-pub mod Walk
-pub mod OnChains
-pub mod Message
-pub mod Links
-pub mod Inbox
-pub mod Sound
-pub mod Relinked
-pub mod Put
-pub mod Widths
-pub mod PutEach
-pub mod Drop
-pub mod Empty
-pub mod Stores
-pub mod Held
+pub mod Lists

@@ -1,3 +1,6 @@
+pub mod CheckLaws
+pub mod Laws
+pub mod FillLaws
 pub mod Again
 pub mod Offsets
 pub mod Shared

@@ -1,4 +1,1 @@
-pub mod Check
-pub mod Laws
 pub mod Fill
-pub mod FillLaws

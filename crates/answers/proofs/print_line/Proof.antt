@@ -2,7 +2,7 @@
 use native.Mathlib.Omega.{arith}
 use mathlib.Core.Path.{sym, _∙_}
 use borrow.Author.Needs.{needs}
-use Rattle.script.specs.Writing.{placed-fits, after-fits, placed-none, after-none}
+use Rattle.script.proofs.Writing.{placed-fits, after-fits, placed-none, after-none}
 use Rattle.answers.specs.Output.{outputLine, lineRoom}
 use Rattle.answers.proofs.print_line.Statement.{statement}
 use Rattle.answers.proofs.print_line.Tie as tie

@@ -6,9 +6,9 @@ use lib.ListN.{length-append}
 use borrow.Author.Needs.{needs}
 use Rattle.answers.specs.Output.{tagBytes, itemBytes}
 use Rattle.script.specs.Bytes.{space}
-use Rattle.script.specs.Writing.{decimal-length}
+use Rattle.script.proofs.Writing.{decimal-length}
 use Rattle.script.specs.Digits.{decimalOf}
-use Rattle.answers.specs.Printing.{then}
+use Rattle.answers.proofs.Printing.{then}
 use Rattle.answers.proofs.put_item.Statement.{statement}
 use Rattle.answers.proofs.put_item.Tie as tie
 

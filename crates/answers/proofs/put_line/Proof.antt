@@ -3,9 +3,9 @@
 use native.Mathlib.Omega.{arith}
 use mathlib.Core.Path.{_∙_}
 use borrow.Author.Needs.{needs}
-use Rattle.script.specs.Writing.{decimal-length}
+use Rattle.script.proofs.Writing.{decimal-length}
 use Rattle.answers.specs.Output.{outputLine}
-use Rattle.answers.specs.Printing.{then, number-written, reply-length}
+use Rattle.answers.proofs.Printing.{then, number-written, reply-length}
 use Rattle.answers.proofs.put_line.Statement.{statement}
 use Rattle.answers.proofs.put_line.Tie as tie
 

@@ -1,7 +1,7 @@
 -- `answers::put_tag` meets its contract: the tag's number, where there is room.
 use native.Mathlib.Omega.{arith}
 use borrow.Author.Needs.{needs}
-use Rattle.answers.specs.Printing.{number-written}
+use Rattle.answers.proofs.Printing.{number-written}
 use Rattle.answers.specs.Output.{tagBytes}
 use Rattle.answers.proofs.put_tag.Statement.{statement}
 use Rattle.answers.proofs.put_tag.Tie as tie

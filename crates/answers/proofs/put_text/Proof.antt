@@ -6,7 +6,7 @@ use mathlib.Core.Path.{sym, _∙_, refl, _≡_}
 use lib.Seq.{sets}
 use lib.ListN.{length, drop, length-set}
 use borrow.Author.Needs.{needs}
-use Rattle.answers.specs.Printing.{sets-first, sets-turn, sets-over}
+use Rattle.answers.proofs.Printing.{sets-first, sets-turn, sets-over}
 use Rattle.answers.proofs.put_text.Statement.{statement}
 use Rattle.answers.proofs.put_text.Tie as tie
 

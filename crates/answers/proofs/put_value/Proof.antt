@@ -4,7 +4,7 @@ use native.Mathlib.Omega.{arith}
 use mathlib.Core.Path.{_∙_}
 use lib.ListN.{length}
 use borrow.Author.Needs.{needs}
-use Rattle.answers.specs.Printing.{then, number-written}
+use Rattle.answers.proofs.Printing.{then, number-written}
 use Rattle.answers.proofs.put_value.Statement.{statement}
 use Rattle.answers.proofs.put_value.Tie as tie
 

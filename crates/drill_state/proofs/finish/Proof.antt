@@ -4,7 +4,7 @@ use native.Mathlib.Omega.{arith}
 use mathlib.Core.Path.{_≡_}
 use borrow.Author.Tests.{eq-eqb, ne-eqb}
 use Rattle.drill_state.specs.Drill.{lastOutput}
-use Rattle.drill_state.specs.FeedingLaws.{line-stands, line-within}
+use Rattle.drill_state.proofs.FeedingLaws.{line-stands, line-within}
 use borrow.Author.Needs.{needs}
 use Rattle.drill_state.proofs.finish.Statement.{statement}
 use Rattle.drill_state.proofs.finish.Tie as tie

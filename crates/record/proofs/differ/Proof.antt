@@ -1,5 +1,5 @@
 -- `record::differ` has the theorem for its contract.
-use Rattle.record.specs.RoundTrip.{differ}
+use Rattle.record.proofs.RoundTripLaws.{differ}
 use Rattle.record.proofs.differ.Statement.{statement}
 use Rattle.record.proofs.differ.Tie as tie
 

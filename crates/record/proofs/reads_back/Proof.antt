@@ -1,5 +1,5 @@
 -- `record::reads_back` has the theorem for its contract.
-use Rattle.record.specs.RoundTrip.{reads-back}
+use Rattle.record.proofs.RoundTripLaws.{reads-back}
 use Rattle.record.proofs.reads_back.Statement.{statement}
 use Rattle.record.proofs.reads_back.Tie as tie
 

@@ -1,5 +1,5 @@
 -- `record::writes_back` has the theorem for its contract.
-use Rattle.record.specs.RoundTrip.{writes-back}
+use Rattle.record.proofs.RoundTripLaws.{writes-back}
 use Rattle.record.proofs.writes_back.Statement.{statement}
 use Rattle.record.proofs.writes_back.Tie as tie
 

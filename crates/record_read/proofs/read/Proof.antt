@@ -3,7 +3,7 @@ use Rattle.record.specs.Record.{readRecord}
 use native.Mathlib.Omega.{arith}
 use mathlib.Core.Path.{ap, _∙_}
 use denote.Ref.{now}
-use Rattle.record.specs.RecordLaws.{record-none, length-record-of, record-lent}
+use Rattle.record.proofs.RecordLaws.{record-none, length-record-of, record-lent}
 use borrow.Author.Needs.{needs}
 use Rattle.record_read.proofs.read.Statement.{statement}
 use Rattle.record_read.proofs.read.Tie as tie

@@ -6,8 +6,8 @@ use Rattle.item.specs.Tests.{refuted, granted}
 use borrow.Author.Tests.{eq-eqb}
 use Rattle.record.specs.Kind.{messageOf}
 use Rattle.record.specs.Record.{readRecord, readAs}
-use Rattle.record.specs.RecordLaws.{read-found}
-use Rattle.record_read.specs.ReadableLaws.{zero-read, zero-long, read-stray}
+use Rattle.record.proofs.RecordLaws.{read-found}
+use Rattle.record_read.proofs.ReadableLaws.{zero-read, zero-long, read-stray}
 use borrow.Author.Needs.{needs}
 use Rattle.record_read.proofs.read_record.Statement.{statement}
 use Rattle.record_read.proofs.read_record.Tie as tie

@@ -7,9 +7,9 @@ use Rattle.record.specs.Kind.{messageOf}
 use Rattle.record.specs.declared.kinds.Fields.{Fields}
 use Rattle.record_read.specs.Known.{isKnown}
 use Rattle.record.specs.Layout.{nextOf}
-use Rattle.record_read.specs.ReadableLaws.{readable-stray, readable-known}
+use Rattle.record_read.proofs.ReadableLaws.{readable-stray, readable-known}
 use Rattle.record_words.specs.Numbers.{recordNumbers}
-use Rattle.record_words.specs.RecordLaws.{numbers-straight}
+use Rattle.record_words.proofs.RecordLaws.{numbers-straight}
 use borrow.Author.Needs.{needs}
 use Rattle.record_words.proofs.read_numbers.Statement.{statement}
 use Rattle.record_words.proofs.read_numbers.Tie as tie

@@ -1,8 +1,8 @@
 -- `record_words::read_record` meets its contract: each way out by one law of `RecordLaws`.
 use native.Mathlib.Omega.{arith}
 use denote.Ref.{now}
-use Rattle.record.specs.RecordLaws.{record-lent}
-use Rattle.record_words.specs.RecordLaws.{read-short, read-none, read-lent}
+use Rattle.record.proofs.RecordLaws.{record-lent}
+use Rattle.record_words.proofs.RecordLaws.{read-short, read-none, read-lent}
 use borrow.Author.Needs.{needs}
 use Rattle.record_words.proofs.read_record.Statement.{statement}
 use Rattle.record_words.proofs.read_record.Tie as tie

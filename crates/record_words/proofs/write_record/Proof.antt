@@ -9,9 +9,9 @@ use mathlib.Core.List.{[]}
 use Rattle.item.specs.Tests.{refuted, granted}
 use Rattle.record_words.specs.Numbers.{fieldsFrom}
 use Rattle.record.specs.Layout.{recordSize}
-use Rattle.record_words.specs.NumberLaws.{fits}
-use Rattle.record_words.specs.ReadBack.{stated-fits}
-use Rattle.record_words.specs.RecordLaws.{write-none, write-refused, write-stated}
+use Rattle.record_words.proofs.NumberLaws.{fits}
+use Rattle.record_words.proofs.ReadBackLaws.{stated-fits}
+use Rattle.record_words.proofs.RecordLaws.{write-none, write-refused, write-stated}
 use borrow.Author.Needs.{needs}
 use Rattle.record_words.proofs.write_record.Statement.{statement}
 use Rattle.record_words.proofs.write_record.Tie as tie

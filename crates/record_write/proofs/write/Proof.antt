@@ -3,11 +3,10 @@ use borrow.Rule.Slice.PartMut.{putMid}
 use Rattle.item.specs.Maxima.{maxNodes}
 use Rattle.item.specs.declared.Item.{Item}
 use Rattle.endian.specs.Part.{withPart}
-use Rattle.record.specs.Layout.{recordSize, nextAt, recordOf}
+use Rattle.record.specs.Layout.{recordSize, nextAt, recordOf, layoutBytes, heldRows}
 use mathlib.Core.List.{List}
-use Rattle.endian.specs.PartLaws.{with-all}
-use Rattle.record.specs.LayoutLaws.{length-layout, length-padded}
-use Rattle.record.specs.Layout.{layoutBytes, heldRows}
+use Rattle.endian.proofs.PartLaws.{with-all}
+use Rattle.record.proofs.LayoutLaws.{length-layout, length-padded}
 use Rattle.record.specs.Kind.{fieldsOf, rowsHeld}
 use Rattle.record.specs.Record.{recordBytes}
 use Prim.Native.Nat.{ℕ, _+_, _-_, _*_, _≤_}
@@ -15,7 +14,7 @@ use lib.ListN.{length, take}
 use native.Mathlib.Omega.{arith}
 use mathlib.Core.Path.{_≡_, sym, ap, _∙_}
 use denote.Ref.{now}
-use Rattle.record.specs.RecordLaws.{length-record-of, record-lent, record-back, with-record-none}
+use Rattle.record.proofs.RecordLaws.{length-record-of, record-lent, record-back, with-record-none}
 use borrow.Author.Needs.{needs}
 use Rattle.record_write.proofs.write.Statement.{statement}
 use Rattle.record_write.proofs.write.Tie as tie

@@ -5,7 +5,7 @@ use mathlib.Core.Path.{_≡_, _∙_}
 use lib.ListN.{take, replicate}
 use Rattle.record.specs.Layout.{recordSize}
 use Rattle.store.specs.Records.{recordCount}
-use Rattle.run_script.specs.ScriptLaws.{first-of-replicate, cut-short, no-room, ended, unended}
+use Rattle.run_script.proofs.ScriptLaws.{first-of-replicate, cut-short, no-room, ended, unended}
 use borrow.Author.Needs.{needs}
 use Rattle.run_script.proofs.run.Statement.{statement}
 use Rattle.run_script.proofs.run.Tie as tie

@@ -1,7 +1,7 @@
 -- `script::read_line` meets its contract: the two tests of the definition, then the letter and the rest.
 use borrow.Author.Tests.{eq-eqb, ne-eqb, le-leb, lt-leb}
 use borrow.Author.Needs.{needs}
-use Rattle.script.specs.Reading.{part-rest}
+use Rattle.script.proofs.Reading.{part-rest}
 use Rattle.script.specs.Line.{lineOf}
 use Rattle.script.proofs.read_line.Statement.{statement}
 use Rattle.script.proofs.read_line.Tie as tie

@@ -5,7 +5,7 @@ use native.Mathlib.Omega.{arith}
 use mathlib.Core.Path.{_≡_}
 use lib.ListN.{length, drop}
 use borrow.Author.Needs.{needs}
-use Rattle.script.specs.Reading.{word-ends, word-goes-on, word-over}
+use Rattle.script.proofs.Reading.{word-ends, word-goes-on, word-over}
 use Rattle.script.specs.Line.{word}
 use Rattle.script.proofs.word_length.Statement.{statement}
 use Rattle.script.proofs.word_length.Tie as tie

@@ -3,7 +3,7 @@ use native.Mathlib.Omega.{arith}
 use mathlib.Core.Path.{sym, _∙_}
 use lib.Seq.{length-take-le}
 use borrow.Author.Needs.{needs}
-use Rattle.script.specs.Reading.{write-parts, write-one-word}
+use Rattle.script.proofs.Reading.{write-parts, write-one-word}
 use Rattle.script.specs.Line.{writeWith}
 use Rattle.script.proofs.write_line.Statement.{statement}
 use Rattle.script.proofs.write_line.Tie as tie

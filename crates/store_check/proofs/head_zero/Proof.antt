@@ -1,6 +1,6 @@
 -- `store_check::head_zero` meets its contract: the spare byte, and the head from the end of its fields on, which is a part of the bytes.
 use Rattle.endian.specs.Zero.{allZero}
-use Rattle.store.specs.Lent.{head-rest, head-rest-none, head-zero-is, head-spare}
+use Rattle.store.proofs.Lent.{head-rest, head-rest-none, head-zero-is, head-spare}
 use Rattle.store.specs.Head.{headZero, inboxAt}
 use denote.Ref.{now}
 use native.Mathlib.Omega.{arith}

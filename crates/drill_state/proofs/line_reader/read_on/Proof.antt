@@ -11,7 +11,7 @@ use borrow.Author.Tests.{leb-true, leb-false}
 use Rattle.item.specs.Tests.{granted, refuted}
 use Rattle.answers.specs.Output.{lineRoom}
 use Rattle.answers.specs.declared.Reply.the-variants as reply
-use Rattle.drill_state.specs.FeedingLaws.{line-within}
+use Rattle.drill_state.proofs.FeedingLaws.{line-within}
 use Rattle.drill_state.specs.Turn.{lineFor}
 use Rattle.drill_state.specs.declared.Progress.{Progress}
 use Rattle.protocol.specs.declared.Node.{Node}

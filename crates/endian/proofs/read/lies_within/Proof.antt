@@ -1,5 +1,5 @@
 -- `endian::read::lies_within` meets its contract: the difference is tested, since the sum might not fit.
-use Rattle.endian.specs.PartLaws.{by-order}
+use Rattle.endian.proofs.PartLaws.{by-order}
 use mathlib.Core.Path.{sym, _∙_}
 use Prim.Native.Nat.{_+_, _-_}
 use native.Mathlib.Omega.{arith}

@@ -5,8 +5,8 @@ use mathlib.Core.Path.{sym}
 use native.Mathlib.Omega.{arith}
 use lib.ListN.{length}
 use denote.Ref.{now}
-use Rattle.endian.specs.PartLaws.{outside, inside}
-use Rattle.endian.specs.NumberLaws.{number-none, number-two}
+use Rattle.endian.proofs.PartLaws.{outside, inside}
+use Rattle.endian.proofs.NumberLaws.{number-none, number-two}
 use borrow.Author.Needs.{needs}
 use Rattle.endian.proofs.read.read_u16.Statement.{statement}
 use Rattle.endian.proofs.read.read_u16.Tie as tie

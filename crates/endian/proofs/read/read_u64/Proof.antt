@@ -3,8 +3,8 @@ use mathlib.Core.Path.{sym}
 use native.Mathlib.Omega.{arith}
 use lib.ListN.{length}
 use denote.Ref.{now}
-use Rattle.endian.specs.PartLaws.{outside, inside}
-use Rattle.endian.specs.NumberLaws.{number-none, number-joined}
+use Rattle.endian.proofs.PartLaws.{outside, inside}
+use Rattle.endian.proofs.NumberLaws.{number-none, number-joined}
 use borrow.Author.Needs.{needs}
 use Rattle.endian.proofs.read.read_u64.Statement.{statement}
 use Rattle.endian.proofs.read.read_u64.Tie as tie

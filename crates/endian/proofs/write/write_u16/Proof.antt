@@ -3,8 +3,8 @@ use mathlib.Core.Path.{sym}
 use native.Mathlib.Omega.{arith}
 use lib.ListN.{length, length-set}
 use denote.Ref.{now}
-use Rattle.endian.specs.PartLaws.{outside, inside}
-use Rattle.endian.specs.NumberLaws.{with-number-none, with-two}
+use Rattle.endian.proofs.PartLaws.{outside, inside}
+use Rattle.endian.proofs.NumberLaws.{with-number-none, with-two}
 use borrow.Author.Needs.{needs}
 use Rattle.endian.proofs.write.write_u16.Statement.{statement}
 use Rattle.endian.proofs.write.write_u16.Tie as tie

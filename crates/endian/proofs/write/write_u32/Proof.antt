@@ -4,8 +4,8 @@ use mathlib.Core.Path.{sym}
 use native.Mathlib.Omega.{arith}
 use lib.ListN.{length}
 use denote.Ref.{now}
-use Rattle.endian.specs.PartLaws.{outside, inside}
-use Rattle.endian.specs.NumberLaws.{with-number-none, with-number-joined}
+use Rattle.endian.proofs.PartLaws.{outside, inside}
+use Rattle.endian.proofs.NumberLaws.{with-number-none, with-number-joined}
 use borrow.Author.Needs.{needs}
 use Rattle.endian.proofs.write.write_u32.Statement.{statement}
 use Rattle.endian.proofs.write.write_u32.Tie as tie

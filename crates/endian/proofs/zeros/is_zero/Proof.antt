@@ -2,7 +2,7 @@
 -- Or is 0 exactly if both are (`or-zero`), so each turn is `zero-more`.
 use denote.Ref.{now}
 use native.Mathlib.Omega.{arith}
-use Rattle.endian.specs.ZeroLaws.{zero-more}
+use Rattle.endian.proofs.ZeroLaws.{zero-more}
 use Rattle.endian.specs.Zero.{allZero}
 use lib.Seq.{take-all}
 use lib.ListN.{length, take}

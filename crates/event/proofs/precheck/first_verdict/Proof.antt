@@ -1,6 +1,6 @@
 -- `event::precheck::first_verdict` meets its contract.
 use Rattle.event.proofs.Laws.{first-length, first-store, first-table, first-taken}
-use Rattle.store.specs.Lent.{right}
+use Rattle.store.proofs.Lent.{right}
 use borrow.Author.Tests.{not-true, not-false}
 use denote.Ref.{now}
 use mathlib.Core.Path.{_≡_, sym}

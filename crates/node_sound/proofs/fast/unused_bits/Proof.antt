@@ -8,7 +8,7 @@ use native.Mathlib.Omega.{arith}
 use borrow.Author.Needs.{needs}
 use borrow.Author.Tests.{lt-ltb, le-ltb}
 use Rattle.item.specs.Counter.{sameIncarnation, sameAttempt}
-use Rattle.endian.specs.ZeroLaws.{or-zero}
+use Rattle.endian.proofs.ZeroLaws.{or-zero}
 use Rattle.item.specs.Item.{tagsAgree, sameItem}
 use Rattle.item.specs.declared.Row.{Row}
 use Rattle.node_sound.specs.Rest.{numbersZero, unusedRowZero}

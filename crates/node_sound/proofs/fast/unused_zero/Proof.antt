@@ -6,7 +6,7 @@ use lib.ListN.{length, take}
 use lib.Seq.{take-all}
 use native.Mathlib.Omega.{arith}
 use borrow.Author.Needs.{needs}
-use Rattle.endian.specs.ZeroLaws.{or-zero}
+use Rattle.endian.proofs.ZeroLaws.{or-zero}
 use Rattle.item.specs.Maxima.{maxNodes}
 use Rattle.item.specs.Row.{zeroRow}
 use Rattle.protocol.specs.Sound.{everyFrom}

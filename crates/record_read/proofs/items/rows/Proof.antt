@@ -5,7 +5,7 @@ use Rattle.record.specs.Layout.{rowsOf, itemsIn, itemIn}
 use native.Mathlib.Omega.{arith}
 use mathlib.Core.Path.{ap, _∙_}
 use denote.Ref.{now}
-use Rattle.record.specs.RecordLaws.{record-none, record-lent}
+use Rattle.record.proofs.RecordLaws.{record-none, record-lent}
 use borrow.Author.Needs.{needs}
 use Rattle.record_read.proofs.items.rows.Statement.{statement}
 use Rattle.record_read.proofs.items.rows.Tie as tie

@@ -4,7 +4,7 @@ use Rattle.item.specs.Tests.{refuted, granted}
 use Rattle.record.specs.Kind.{messageOf}
 use Rattle.record.specs.declared.kinds.Fields.{Fields}
 use Rattle.record_read.specs.Known.{isKnown}
-use Rattle.record_read.specs.ReadableLaws.{readable-stray, readable-known}
+use Rattle.record_read.proofs.ReadableLaws.{readable-stray, readable-known}
 use borrow.Author.Needs.{needs}
 use Rattle.record_read.proofs.validity.is_readable.Statement.{statement}
 use Rattle.record_read.proofs.validity.is_readable.Tie as tie

@@ -7,7 +7,7 @@ use lib.ListN.{length, drop}
 use Rattle.endian.specs.Zero.{allZero}
 use Rattle.record.specs.Layout.{recordSize, rowsAt, rowSize}
 use Rattle.record_read.specs.Readable.{zeroAfterKind}
-use Rattle.record_read.specs.ReadableLaws.{rows-of-kind-most}
+use Rattle.record_read.proofs.ReadableLaws.{rows-of-kind-most}
 use borrow.Author.Needs.{needs}
 use Rattle.record_read.proofs.validity.zero_after_rows.Statement.{statement}
 use Rattle.record_read.proofs.validity.zero_after_rows.Tie as tie

@@ -1,7 +1,7 @@
 -- `record_words::fields::fit` meets its contract: each test as in the definition.
 use native.Mathlib.Omega.{arith}
 use mathlib.Core.Path.{sym}
-use Rattle.record_words.specs.NumberLaws.{unfit, fits}
+use Rattle.record_words.proofs.NumberLaws.{unfit, fits}
 use borrow.Author.Needs.{needs}
 use Rattle.record_words.proofs.fields.fit.Statement.{statement}
 use Rattle.record_words.proofs.fields.fit.Tie as tie

@@ -5,9 +5,9 @@ use denote.Ref.{now}
 use mathlib.Core.Path.{sym, _∙_}
 use Rattle.item.specs.Maxima.{maxNodes}
 use Rattle.item.specs.Tests.{refuted, granted}
-use Rattle.record_read.specs.ReadableLaws.{rows-of-kind-most}
+use Rattle.record_read.proofs.ReadableLaws.{rows-of-kind-most}
 use Rattle.record_words.specs.Numbers.{stated, isStated}
-use Rattle.record_words.specs.NumberLaws.{fit-is, stated-by}
+use Rattle.record_words.proofs.NumberLaws.{fit-is, stated-by}
 use borrow.Author.Needs.{needs}
 use Rattle.record_words.proofs.fields.is_stated.Statement.{statement}
 use Rattle.record_words.proofs.fields.is_stated.Tie as tie

@@ -8,7 +8,7 @@ use mathlib.Core.Bool.{Bool, _&&_, and-true}
 use lib.Dec.{eqb}
 use lib.ListN.{length, drop}
 use Rattle.endian.specs.Zero.{allZero}
-use Rattle.record_words.specs.NumberLaws.{zero-joined, zero-end}
+use Rattle.record_words.proofs.NumberLaws.{zero-joined, zero-end}
 use borrow.Author.Needs.{needs}
 use Rattle.record_words.proofs.fields.zero_from.Statement.{statement}
 use Rattle.record_words.proofs.fields.zero_from.Tie as tie

@@ -2,10 +2,10 @@
 use native.Mathlib.Omega.{arith}
 use denote.Ref.{now}
 use mathlib.Core.Path.{sym}
-use Rattle.endian.specs.PartLaws.{with-none}
+use Rattle.endian.proofs.PartLaws.{with-none}
 use Rattle.record.specs.Layout.{rowsOf}
 use Rattle.record_words.specs.Numbers.{numberCount}
-use Rattle.record_words.specs.NumberLaws.{length-rows-in, with-all-numbers}
+use Rattle.record_words.proofs.NumberLaws.{length-rows-in, with-all-numbers}
 use borrow.Author.Needs.{needs}
 use Rattle.record_words.proofs.put.put.Statement.{statement}
 use Rattle.record_words.proofs.put.put.Tie as tie

@@ -2,7 +2,7 @@
 use native.Mathlib.Omega.{arith}
 use denote.Ref.{now}
 use lib.ListN.{length-set}
-use Rattle.endian.specs.PartLaws.{sets-is}
+use Rattle.endian.proofs.PartLaws.{sets-is}
 use Rattle.record_words.specs.Numbers.{fieldNumbers}
 use borrow.Author.Needs.{needs}
 use Rattle.record_words.proofs.put.put_fields.Statement.{statement}

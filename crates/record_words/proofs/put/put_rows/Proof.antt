@@ -9,10 +9,10 @@ use lib.Seq.{take-all}
 use Rattle.item.specs.Maxima.{maxNodes}
 use Rattle.item.specs.declared.Item.{Item}
 use Rattle.endian.specs.Part.{withPart}
-use Rattle.endian.specs.PartLaws.{with-nothing}
+use Rattle.endian.proofs.PartLaws.{with-nothing}
 use Rattle.record.specs.Layout.{rowsOf}
 use Rattle.record_words.specs.Numbers.{rowsFirst, rowsCount, numberCount, rowNumbers}
-use Rattle.record_words.specs.NumberLaws.{length-rows-in, with-row-read}
+use Rattle.record_words.proofs.NumberLaws.{length-rows-in, with-row-read}
 use borrow.Author.Needs.{needs}
 use Rattle.record_words.proofs.put.put_rows.Statement.{statement}
 use Rattle.record_words.proofs.put.put_rows.Tie as tie

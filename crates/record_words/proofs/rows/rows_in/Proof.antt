@@ -4,7 +4,7 @@ use native.Mathlib.Omega.{arith}
 use mathlib.Core.Path.{_≡_, refl}
 use lib.ListN.{length, length-set}
 use Rattle.item.specs.Maxima.{maxNodes}
-use Rattle.record_words.specs.NumberLaws.{Passed, passed-none, passed-turn, passed-all}
+use Rattle.record_words.proofs.NumberLaws.{Passed, passed-none, passed-turn, passed-all}
 use borrow.Author.Needs.{needs}
 use Rattle.record_words.proofs.rows.rows_in.Statement.{statement}
 use Rattle.record_words.proofs.rows.rows_in.Tie as tie

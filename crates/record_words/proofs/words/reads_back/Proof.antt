@@ -1,5 +1,5 @@
 -- `record_words::words::reads_back` has the theorem for its contract.
-use Rattle.record_words.specs.ReadBack.{read-back}
+use Rattle.record_words.proofs.ReadBackLaws.{read-back}
 use Rattle.record_words.proofs.words.reads_back.Statement.{statement}
 use Rattle.record_words.proofs.words.reads_back.Tie as tie
 

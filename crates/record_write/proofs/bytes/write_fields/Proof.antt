@@ -1,12 +1,12 @@
 -- `record_write::bytes::write_fields` meets its contract: parts that meet are one, by `with-fields`.
-use Rattle.endian.specs.NumberLaws.{length-with-number}
-use Rattle.endian.specs.PartLaws.{length-with}
+use Rattle.endian.proofs.NumberLaws.{length-with-number}
+use Rattle.endian.proofs.PartLaws.{length-with}
 use lib.ListN.{length-set}
 use mathlib.Core.Path.{_∙_}
 use native.Mathlib.Omega.{arith}
 use denote.Ref.{now}
 use Rattle.record.specs.Layout.{rowSize, itemAt, itemBytes}
-use Rattle.record.specs.LayoutLaws.{with-fields, length-item}
+use Rattle.record.proofs.LayoutLaws.{with-fields, length-item}
 use borrow.Author.Needs.{needs}
 use Rattle.record_write.proofs.bytes.write_fields.Statement.{statement}
 use Rattle.record_write.proofs.bytes.write_fields.Tie as tie

@@ -1,6 +1,6 @@
 -- `record_write::bytes::write_item` meets its contract: two numbers that meet are one part, by `with-item`.
 use denote.Ref.{now}
-use Rattle.record.specs.LayoutLaws.{with-item}
+use Rattle.record.proofs.LayoutLaws.{with-item}
 use borrow.Author.Needs.{needs}
 use Rattle.record_write.proofs.bytes.write_item.Statement.{statement}
 use Rattle.record_write.proofs.bytes.write_item.Tie as tie

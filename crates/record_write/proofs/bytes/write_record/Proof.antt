@@ -1,11 +1,10 @@
 -- `record_write::bytes::write_record` meets its contract: three groups that meet are the record, by `with-groups`.
-use Rattle.record.specs.LayoutLaws.{length-mapped}
+use Rattle.record.proofs.LayoutLaws.{length-mapped, with-groups}
 use native.Mathlib.Omega.{arith}
 use mathlib.Core.Path.{sym}
 use denote.Ref.{now}
-use Rattle.endian.specs.PartLaws.{with-none}
+use Rattle.endian.proofs.PartLaws.{with-none}
 use Rattle.record.specs.Layout.{recordSize}
-use Rattle.record.specs.LayoutLaws.{with-groups}
 use borrow.Author.Needs.{needs}
 use Rattle.record_write.proofs.bytes.write_record.Statement.{statement}
 use Rattle.record_write.proofs.bytes.write_record.Tie as tie

@@ -1,8 +1,7 @@
 -- `record_write::bytes::write_rows` meets its contract. The invariant: the rows passed are written, by `with-rows-more`.
-use Rattle.record.specs.LayoutLaws.{length-mapped}
-use Rattle.record.specs.LayoutLaws.{length-item, with-rows-more}
+use Rattle.record.proofs.LayoutLaws.{length-mapped, length-item, with-rows-more}
 use Rattle.record.specs.Layout.{recordSize, rowsAt, rowSize, rowsBytes}
-use Rattle.endian.specs.PartLaws.{length-with, with-nothing}
+use Rattle.endian.proofs.PartLaws.{length-with, with-nothing}
 use Rattle.endian.specs.Part.{withPart}
 use lib.Seq.{take-all}
 use lib.ListN.{length, take}

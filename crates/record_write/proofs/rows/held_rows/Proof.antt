@@ -1,5 +1,5 @@
 -- `record_write::rows::held_rows` meets its contract: as many rows as the kind has, padded.
-use Rattle.record.specs.KindLaws.{rows-held-most}
+use Rattle.record.proofs.KindLaws.{rows-held-most}
 use Rattle.record.specs.Layout.{heldRows}
 use borrow.Author.Needs.{needs}
 use Rattle.record_write.proofs.rows.held_rows.Statement.{statement}

@@ -1,6 +1,6 @@
 -- `record_write::rows::padded_rows` meets its contract. The invariant: the rows passed are padded, the others as they were.
 use Rattle.record_write.proofs.Padding.{padded-start, padded-turn, padded-end}
-use Rattle.record.specs.LayoutLaws.{length-mapped}
+use Rattle.record.proofs.LayoutLaws.{length-mapped}
 use Rattle.record.specs.Layout.{padded}
 use lib.Seq.{length-take-le}
 use lib.ListN.{length, take, drop, length-set}

@@ -4,7 +4,7 @@ use mathlib.Core.Path.{_≡_, sym}
 use lib.Seq.{length-take-le}
 use lib.ListN.{length}
 use borrow.Author.Needs.{needs}
-use Rattle.script.specs.Gathered.{pending-full}
+use Rattle.script.proofs.Gathered.{pending-full}
 use Rattle.script.specs.Pending.{pendingLine}
 use Rattle.script.proofs.buffer.read_pending.Statement.{statement}
 use Rattle.script.proofs.buffer.read_pending.Tie as tie

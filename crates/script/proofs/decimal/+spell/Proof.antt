@@ -4,7 +4,7 @@ use native.Mathlib.Omega.{arith}
 use mathlib.Core.Path.{ap}
 use lib.ListN.{length, length-set}
 use Rattle.script.specs.Digits.{decimalOf}
-use Rattle.script.specs.Writing.{decimal-one, decimal-more, decimal-longer, sets-after}
+use Rattle.script.proofs.Writing.{decimal-one, decimal-more, decimal-longer, sets-after}
 use borrow.Author.Needs.{needs}
 use borrow.Fn.Kinds.{In}
 use borrow.Fn.PlainCycle.{Measures, is, falls, and}

@@ -5,7 +5,7 @@ use native.Mathlib.Omega.{arith}
 use mathlib.Core.Path.{sym, _∙_, _≡_}
 use lib.ListN.{length, drop}
 use borrow.Author.Needs.{needs}
-use Rattle.script.specs.NumberReading.{digit-is, digit-none, digits-end, is-fits}
+use Rattle.script.proofs.NumberReading.{digit-is, digit-none, digits-end, is-fits}
 use Rattle.script.specs.Number.{numberFrom}
 use Rattle.script.proofs.decimal.digits_in.Statement.{statement}
 use Rattle.script.proofs.decimal.digits_in.Tie as tie

@@ -2,7 +2,7 @@
 use native.Mathlib.Omega.{arith}
 use mathlib.Core.Path.{sym, _∙_}
 use borrow.Author.Needs.{needs}
-use Rattle.script.specs.Writing.{decimal-length, placed-fits, after-fits, placed-none, after-none}
+use Rattle.script.proofs.Writing.{decimal-length, placed-fits, after-fits, placed-none, after-none}
 use Rattle.script.proofs.decimal.put_number.Statement.{statement}
 use Rattle.script.proofs.decimal.put_number.Tie as tie
 

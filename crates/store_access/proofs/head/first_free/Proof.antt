@@ -1,5 +1,5 @@
 -- `store_access::head::first_free` meets its contract: the number stands at the same place of the bytes as of the head.
-use Rattle.store.specs.Lent.{head-number}
+use Rattle.store.proofs.Lent.{head-number}
 use Rattle.store.specs.Head.{firstFree}
 use denote.Ref.{now}
 use native.Mathlib.Omega.{arith}

@@ -1,5 +1,5 @@
 -- `store_access::head::first_of` meets its contract: past the head there is no number, else it stands at the same place of the bytes.
-use Rattle.store.specs.Lent.{head-number, head-none}
+use Rattle.store.proofs.Lent.{head-number, head-none}
 use Rattle.store.specs.Head.{firstOf, inboxAt}
 use denote.Ref.{now}
 use native.Mathlib.Omega.{arith}

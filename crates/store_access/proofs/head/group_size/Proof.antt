@@ -1,6 +1,6 @@
 -- `store_access::head::group_size` meets its contract: the byte stands at the same place of the bytes as of the head.
 use lib.ListN.{List·getD-eq-default}
-use Rattle.store.specs.Lent.{head-byte}
+use Rattle.store.proofs.Lent.{head-byte}
 use Rattle.store.specs.Head.{groupSize, sizeAt}
 use denote.Ref.{now}
 use native.Mathlib.Omega.{arith}

@@ -1,5 +1,5 @@
 -- `store_access::head::set_first_free` meets its contract: the head lent comes back with the two lowest bytes of the number.
-use Rattle.record.specs.RecordLaws.{with-low, record-lent, record-back, with-record-none}
+use Rattle.record.proofs.RecordLaws.{with-low, record-lent, record-back, with-record-none}
 use Rattle.record.specs.Layout.{recordOf}
 use Rattle.endian.specs.Number.{withNumber}
 use borrow.Rule.Slice.PartMut.{putMid}

@@ -1,11 +1,9 @@
 -- `store_access::head::set_first_of` meets its contract: past the head nothing is written, else the head lent comes back with the number.
-use Rattle.record.specs.Layout.{withRecord}
-use Rattle.endian.specs.NumberLaws.{with-number-none}
-use Rattle.record.specs.RecordLaws.{length-record-of}
+use Rattle.record.specs.Layout.{withRecord, recordOf}
+use Rattle.endian.proofs.NumberLaws.{with-number-none}
+use Rattle.record.proofs.RecordLaws.{length-record-of, with-low, record-lent, record-back, with-record-none}
 use Rattle.store.specs.Head.{inboxAt}
-use Rattle.store.specs.Lent.{with-own}
-use Rattle.record.specs.RecordLaws.{with-low, record-lent, record-back, with-record-none}
-use Rattle.record.specs.Layout.{recordOf}
+use Rattle.store.proofs.Lent.{with-own}
 use Rattle.endian.specs.Number.{withNumber}
 use borrow.Rule.Slice.PartMut.{putMid}
 use mathlib.Core.List.{List}

@@ -1,6 +1,6 @@
 -- `store_access::head::set_group_size` meets its contract: a byte of the bytes is that byte of the head.
-use Rattle.record.specs.RecordLaws.{with-record-none}
-use Rattle.store.specs.Lent.{head-set}
+use Rattle.record.proofs.RecordLaws.{with-record-none}
+use Rattle.store.proofs.Lent.{head-set}
 use Rattle.store.specs.Head.{sizeAt}
 use denote.Ref.{now}
 use native.Mathlib.Omega.{arith}

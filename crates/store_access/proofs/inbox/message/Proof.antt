@@ -1,6 +1,6 @@
 -- `store_access::inbox::message` meets its contract: record r read at its place is record r of the list.
 use borrow.Author.Tests.{eq-eqb, ne-eqb}
-use Rattle.store.specs.Lent.{right, record-in}
+use Rattle.store.proofs.Lent.{right, record-in}
 use Rattle.store.specs.Sound.{messageAt, messageIn}
 use Rattle.store.specs.Records.{rightLength}
 use lib.ListN.{length}

@@ -8,7 +8,7 @@ use borrow.Rule.Slice.PartMut.{putMid}
 use Rattle.endian.specs.Zero.{zeros}
 use Rattle.record.specs.Layout.{recordSize}
 use denote.Ref.{now}
-use Rattle.record.specs.RecordLaws.{length-record-of, record-lent, record-back, with-record-none}
+use Rattle.record.proofs.RecordLaws.{length-record-of, record-lent, record-back, with-record-none}
 use borrow.Author.Needs.{needs}
 use Rattle.store_access.proofs.links.clear.Statement.{statement}
 use Rattle.store_access.proofs.links.clear.Tie as tie

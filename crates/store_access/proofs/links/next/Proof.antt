@@ -5,7 +5,7 @@ use Rattle.record.specs.Layout.{nextOf}
 use native.Mathlib.Omega.{arith}
 use mathlib.Core.Path.{ap, _∙_}
 use denote.Ref.{now}
-use Rattle.record.specs.RecordLaws.{record-none, record-lent}
+use Rattle.record.proofs.RecordLaws.{record-none, record-lent}
 use borrow.Author.Needs.{needs}
 use Rattle.store_access.proofs.links.next.Statement.{statement}
 use Rattle.store_access.proofs.links.next.Tie as tie

@@ -3,7 +3,7 @@ use Rattle.record.specs.Record.{withNext}
 use native.Mathlib.Omega.{arith}
 use mathlib.Core.Path.{sym}
 use denote.Ref.{now}
-use Rattle.record.specs.RecordLaws.{with-low, record-lent, record-back, with-record-none}
+use Rattle.record.proofs.RecordLaws.{with-low, record-lent, record-back, with-record-none}
 use borrow.Author.Needs.{needs}
 use Rattle.store_access.proofs.links.set_next.Statement.{statement}
 use Rattle.store_access.proofs.links.set_next.Tie as tie

@@ -8,7 +8,7 @@ use mathlib.Core.List.{List}
 use lib.ListN.{drop}
 use Prim.Native.Nat.{ℕ}
 use denote.Ref.{now}
-use Rattle.record.specs.RecordLaws.{record-none, length-record-of, record-lent}
+use Rattle.record.proofs.RecordLaws.{record-none, length-record-of, record-lent}
 use borrow.Author.Needs.{needs}
 use Rattle.store_access.proofs.links.zero_after_next.Statement.{statement}
 use Rattle.store_access.proofs.links.zero_after_next.Tie as tie

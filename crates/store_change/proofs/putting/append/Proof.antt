@@ -3,14 +3,13 @@ use Prim.Native.Nat.{ℕ, _+_, _-_, _*_, _%_, _≤_, _<_}
 use mathlib.Core.Path.{_≡_, refl, sym, ap, _∙_}
 use native.Mathlib.Omega.{arith}
 use denote.Ref.{now}
-use Rattle.store.specs.Records.{recordsOf}
+use Rattle.store.specs.Records.{recordsOf, recordCount}
 use mathlib.Core.List.{List}
 use borrow.Author.Tests.{eq-eqb, ne-eqb}
-use Rattle.store.specs.Records.{recordCount}
-use Rattle.store.specs.Joined.{records-count}
+use Rattle.store.proofs.Joined.{records-count}
 use Rattle.store.specs.Head.{firstOf}
 use Rattle.store.specs.Chain.{lastFrom}
-use Rattle.store.specs.Lent.{records-first, records-next}
+use Rattle.store.proofs.Lent.{records-first, records-next}
 use Rattle.store.specs.Change.{appended, withNextIn}
 use borrow.Author.Needs.{needs}
 use Rattle.store_change.proofs.putting.append.Statement.{statement}

@@ -3,11 +3,10 @@ use Prim.Native.Nat.{ℕ, _+_, _-_, _*_, _%_, _≤_, _<_}
 use mathlib.Core.Path.{_≡_, refl, sym, ap, _∙_}
 use native.Mathlib.Omega.{arith}
 use denote.Ref.{now}
-use Rattle.store.specs.Records.{recordsOf}
+use Rattle.store.specs.Records.{recordsOf, recordCount}
 use lib.ListN.{length}
-use Rattle.store.specs.Records.{recordCount}
 use Rattle.store.specs.Chain.{lastFrom}
-use Rattle.store.specs.Lent.{next-in}
+use Rattle.store.proofs.Lent.{next-in}
 use Rattle.store_change.proofs.Search.{last-end, last-turn, last-out}
 use borrow.Author.Needs.{needs}
 use Rattle.store_change.proofs.putting.last_from.Statement.{statement}

@@ -9,7 +9,7 @@ use Rattle.store.specs.Records.{recordsOf}
 use borrow.Author.Tests.{eq-eqb, ne-eqb}
 use Rattle.store.specs.Head.{firstFree}
 use Rattle.store.specs.Change.{putIn, appended}
-use Rattle.store.specs.Lent.{changed, unchanged}
+use Rattle.store.proofs.Lent.{changed, unchanged}
 use borrow.Author.Needs.{needs}
 use Rattle.store_change.proofs.putting.put.Statement.{statement}
 use Rattle.store_change.proofs.putting.put.Tie as tie

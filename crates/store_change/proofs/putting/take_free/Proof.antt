@@ -10,8 +10,8 @@ use Rattle.record.specs.Record.{recordBytes}
 use Rattle.store.specs.Head.{withFirstFree}
 use Rattle.store.specs.Chain.{nextIn}
 use Rattle.store.specs.Change.{taken}
-use Rattle.store.specs.Lent.{next-in, records-with, records-free}
-use Rattle.record.specs.RoundTrip.{length-record}
+use Rattle.store.proofs.Lent.{next-in, records-with, records-free}
+use Rattle.record.proofs.RoundTripLaws.{length-record}
 use borrow.Author.Needs.{needs}
 use Rattle.store_change.proofs.putting.take_free.Statement.{statement}
 use Rattle.store_change.proofs.putting.take_free.Tie as tie

@@ -5,7 +5,7 @@ use native.Mathlib.Omega.{arith}
 use denote.Ref.{now}
 use Rattle.store.specs.Records.{recordsOf}
 use mathlib.Core.List.{List}
-use Rattle.store.specs.Lent.{changed, unchanged}
+use Rattle.store.proofs.Lent.{changed, unchanged}
 use Rattle.store.specs.Change.{freed, dropIn}
 use borrow.Author.Needs.{needs}
 use Rattle.store_change.proofs.removing.drop_message.Statement.{statement}

@@ -8,7 +8,7 @@ use mathlib.Core.List.{List}
 use lib.ListN.{set}
 use Rattle.record.specs.Record.{withNext, noRecord}
 use Rattle.store.specs.Head.{withFirstFree}
-use Rattle.store.specs.Lent.{records-free, records-next, records-clear}
+use Rattle.store.proofs.Lent.{records-free, records-next, records-clear}
 use Rattle.store.specs.Change.{freed, withNextIn}
 use Rattle.store_change.proofs.RemovingSearch.{clear-next}
 use borrow.Author.Needs.{needs}

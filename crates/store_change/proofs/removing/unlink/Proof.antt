@@ -3,13 +3,12 @@ use Prim.Native.Nat.{ℕ, _+_, _-_, _*_, _%_, _≤_, _<_}
 use mathlib.Core.Path.{_≡_, refl, sym, ap, _∙_}
 use native.Mathlib.Omega.{arith}
 use denote.Ref.{now}
-use Rattle.store.specs.Records.{recordsOf}
+use Rattle.store.specs.Records.{recordsOf, recordCount}
 use borrow.Author.Tests.{eq-eqb, ne-eqb}
-use Rattle.store.specs.Records.{recordCount}
-use Rattle.store.specs.Joined.{records-count}
+use Rattle.store.proofs.Joined.{records-count}
 use Rattle.store.specs.Head.{firstOf, withFirstOf}
 use Rattle.store.specs.Chain.{beforeFrom}
-use Rattle.store.specs.Lent.{next-in, records-first, records-next}
+use Rattle.store.proofs.Lent.{next-in, records-first, records-next}
 use Rattle.store.specs.Change.{unlinked, withNextIn}
 use borrow.Author.Needs.{needs}
 use Rattle.store_change.proofs.removing.unlink.Statement.{statement}

@@ -3,12 +3,11 @@ use Prim.Native.Nat.{ℕ, _+_, _-_, _*_, _%_, _≤_, _<_}
 use mathlib.Core.Path.{_≡_, refl, sym, ap, _∙_}
 use native.Mathlib.Omega.{arith}
 use denote.Ref.{now}
-use Rattle.store.specs.Records.{recordsOf}
+use Rattle.store.specs.Records.{recordsOf, recordCount}
 use mathlib.Core.List.{List}
 use lib.ListN.{length}
 use Rattle.record.specs.Layout.{recordSize}
-use Rattle.store.specs.Records.{recordCount}
-use Rattle.store.specs.Lent.{records-next}
+use Rattle.store.proofs.Lent.{records-next}
 use Rattle.store.specs.Change.{withNextIn}
 use Rattle.store_change.proofs.Linked.{linkedTo, zero-linked, linked-turn, linked-end}
 use borrow.Author.Needs.{needs}

@@ -3,11 +3,10 @@ use Prim.Native.Nat.{ℕ, _+_, _-_, _*_, _%_, _≤_, _<_}
 use mathlib.Core.Path.{_≡_, refl, sym, ap, _∙_}
 use native.Mathlib.Omega.{arith}
 use denote.Ref.{now}
-use Rattle.store.specs.Records.{recordsOf}
+use Rattle.store.specs.Records.{recordsOf, recordCount, recordIn}
 use mathlib.Core.List.{List}
 use lib.ListN.{set}
-use Rattle.store.specs.Lent.{records-free, records-byte, changed, unchanged}
-use Rattle.store.specs.Records.{recordCount, recordIn}
+use Rattle.store.proofs.Lent.{records-free, records-byte, changed, unchanged}
 use Rattle.store.specs.Head.{sizeAt, withFirstFree}
 use Rattle.store_change.proofs.Linked.{head-set}
 use Rattle.store.specs.Change.{emptyRecords, setUp}

@@ -3,7 +3,7 @@ use mathlib.Core.Path.{ap, _∙_}
 use native.Mathlib.Omega.{arith}
 use denote.Ref.{now}
 use Rattle.record.specs.Record.{readRecord}
-use Rattle.record.specs.RecordLaws.{record-none, record-lent}
+use Rattle.record.proofs.RecordLaws.{record-none, record-lent}
 use Rattle.store.specs.Sound.{addressedTo, belongsTo}
 use borrow.Author.Needs.{needs}
 use Rattle.store_check.proofs.chain.belongs_to.Statement.{statement}

@@ -48,8 +48,8 @@ use denote.Slice.{sliceVal, ShrSlice, Room, slice-vals, shr-slice-tells, shr-sli
 use denote.Triple.Walked.{says, Stays, stay-none, stay-none-slice, walkOf, goes-none, goes-none-slice, Walks, ends-at, walked, walk-meets}
 use Rattle.protocol.specs.declared.Node.{Node}
 use Rattle.protocol.specs.Table.{noNode}
-use Rattle.table.specs.Check.{soundTo}
-use Rattle.table.specs.Laws.{sound-all}
+use Rattle.table.proofs.CheckLaws.{soundTo}
+use Rattle.table.proofs.Laws.{sound-all}
 use Rattle.protocol.specs.Sound.{soundNode}
 use Rattle.table.proofs.Walk.{env-of, ty-of, after}
 use Rattle.table.proofs.node_at as node-at

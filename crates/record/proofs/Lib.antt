@@ -1,0 +1,5 @@
+pub mod KindLaws
+pub mod LayoutLaws
+pub mod ChunkLaws
+pub mod RecordLaws
+pub mod RoundTripLaws

@@ -1,0 +1,4 @@
+pub mod Bytes
+pub mod Joined
+pub mod Locality
+pub mod Lent
