@@ -6,7 +6,6 @@ ghost use Prim.Native.Nat.{_+_, _≤_};
 ghost use mathlib.Core.Path.{_≡_};
 ghost use mathlib.Core.List.{_++_};
 ghost use lib.ListN.{length};
-ghost use lib.Seq.{sets};
 ghost use Rattle.script.specs.Digits.{decimalOf};
 ghost use Rattle.script.specs.Place.{placeAfter, placed};
 ghost use Rattle.answers.specs.Output.{Written, answerBytes, itemBytes, lineRoom, outputLine, replyBytes, tagBytes};

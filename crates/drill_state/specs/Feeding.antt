@@ -6,7 +6,7 @@ use mathlib.Core.Logic.{_⊎_}
 use mathlib.Core.Bool.{cond}
 use mathlib.Core.List.{List, [], _∷_, _++_}
 use lib.Dec.{eqb}
-use lib.ListN.{length, take, drop, replicate}
+use lib.ListN.{length, take, drop}
 use Rattle.answers.specs.Output.{outputLine, lineRoom}
 use Rattle.script.specs.Bytes.{lineFeed}
 use Rattle.script.specs.Pending.{noneYet, pushed, pendingLine}

@@ -14,7 +14,6 @@ ghost use Prim.Native.Nat.{ℕ, _+_};
 ghost use mathlib.Core.Path.{_≡_};
 ghost use mathlib.Core.List.{List};
 ghost use lib.Dec.{leb};
-ghost use lib.ListN.{length};
 ghost use Rattle.answers.specs.Output.{lineRoom};
 ghost use Rattle.drill_state.specs.Turn.{lineFor, sizeAfter};
 ghost use Rattle.drill_state.specs.Position.{Onward, Reached, askedBy, askingAt, nothingAsked, isAsked, restingAt, sizeThen};

@@ -1,8 +1,8 @@
 -- What the definitions of specs/SetUp give in each case, and that with the nodes filled in they are the protocol's set-up.
 use Prim.Native.Nat.{ℕ, _*_, _%_}
-use mathlib.Core.Path.{_≡_, refl, sym, ap, _∙_}
+use mathlib.Core.Path.{_≡_, refl, ap, _∙_}
 use mathlib.Core.Logic.{_≢_}
-use mathlib.Core.Bool.{Bool, true, false, cond, _&&_}
+use mathlib.Core.Bool.{Bool, true, false, _&&_}
 use mathlib.Core.List.{List}
 use native.Mathlib.Omega.{arith}
 use borrow.Author.Tests.{eq-eqb, ne-eqb, eqb-true}
@@ -16,8 +16,6 @@ use Rattle.store.proofs.Lent.{unchanged}
 use Rattle.store.specs.Change.{emptyRecords, setUp}
 use Rattle.operations.specs.Operation as whole
 use Rattle.operations.specs.Operation.{Result}
-use Rattle.protocol.specs.Table.{freshTable}
-use Rattle.protocol.specs.declared.Answer.{Answer}
 use Rattle.protocol.specs.declared.Answer.the-variants as answer
 use Rattle.protocol.specs.declared.Node.{Node}
 use Rattle.protocol.specs.declared.Refusal.the-variants.{GroupSize, StoreLength}

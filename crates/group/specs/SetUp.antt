@@ -1,7 +1,7 @@
 -- Set-up as the code does it: everything but the table is decided and done first, and then as many nodes are set up as
 -- that says.
 use Prim.Native.Nat.{ℕ}
-use mathlib.Core.Bool.{Bool, cond, _&&_}
+use mathlib.Core.Bool.{cond, _&&_}
 use mathlib.Core.List.{List}
 use lib.Dec.{eqb}
 use Rattle.item.specs.Maxima.{validSize}

@@ -1,16 +1,14 @@
 -- The laws of the comparisons: a test is true exactly if what it names holds. Proofs above cite these and open no definition.
-use Prim.Native.Nat.{ℕ, suc, _<_, _≤_}
+use Prim.Native.Nat.{suc, _<_, _≤_}
 use native.Mathlib.Omega.{arith}
-use native.Mathlib.Decide.{decLt}
-use mathlib.Core.Path.{_≡_, refl, sym, _∙_}
-use mathlib.Core.Logic.{_⊎_, inl, inr}
-use mathlib.Core.Bool.{Bool, true, false, _&&_, Bool·beq, cond, false≢true}
+use mathlib.Core.Path.{_≡_, refl}
+use mathlib.Core.Bool.{Bool, true, false, Bool·beq, false≢true}
 use lib.Dec.{ltb, eqb}
-use borrow.Author.Tests.{ltb-true, ltb-false, lt-ltb, le-ltb, eqb-true, eqb-false, eq-eqb, ne-eqb}
-use Rattle.item.specs.Counter.{largest, indexBelow, indexAtLargest, nextIndex, sameIncarnation, incarnationAtLargest, nextIncarnation, sameAttempt, attemptAtLargest, nextAttempt, earlier}
+use borrow.Author.Tests.{ltb-true, ltb-false, lt-ltb, le-ltb, eqb-true, eq-eqb}
+use Rattle.item.specs.Counter.{indexBelow, indexAtLargest, nextIndex, sameIncarnation, incarnationAtLargest, nextIncarnation, sameAttempt, attemptAtLargest, nextAttempt}
 use Rattle.item.specs.Item.{tagsAgree, ranksBelow, sameItem}
 use Rattle.item.specs.Row.{sameRow}
-use Rattle.item.specs.Tests.{and-left, and-right, and-both, by-cond}
+use Rattle.item.specs.Tests.{and-left, and-right}
 use Rattle.item.specs.declared.counters.Attempt.{Attempt}
 use Rattle.item.specs.declared.counters.Incarnation.{Incarnation}
 use Rattle.item.specs.declared.counters.Index.{Index}
@@ -49,17 +47,9 @@ pub same-incarnation : (i j : Incarnation) → sameIncarnation i j ≡ true → 
 unfolding sameIncarnation
 same-incarnation i j e = let p : i .0 ≡ j .0 = eqb-true (i .0) (j .0) e in λ k. record { 0 = p k }
 
-pub incarnation-self : (i : Incarnation) → sameIncarnation i i ≡ true
-unfolding sameIncarnation
-incarnation-self i = eq-eqb (i .0) (i .0) refl
-
 pub same-attempt : (a b : Attempt) → sameAttempt a b ≡ true → a ≡ b
 unfolding sameAttempt
 same-attempt a b e = let p : a .0 ≡ b .0 = eqb-true (a .0) (b .0) e in λ k. record { 0 = p k }
-
-pub attempt-self : (a : Attempt) → sameAttempt a a ≡ true
-unfolding sameAttempt
-attempt-self a = eq-eqb (a .0) (a .0) refl
 
 -- two items are the same exactly if they are equal
 pub same-item : (i j : Item) → sameItem i j ≡ true → i ≡ j
@@ -68,10 +58,6 @@ same-item i j e =
     let p : i .index .0 ≡ j .index .0 = eqb-true (i .index .0) (j .index .0) (and-left _ _ e) in
     let q : i .tag ≡ j .tag = agree-same (i .tag) (j .tag) (and-right (eqb (i .index .0) (j .index .0)) _ e) in
     λ k. record { index = record { 0 = p k }; tag = q k }
-
-pub item-self : (i : Item) → sameItem i i ≡ true
-unfolding sameItem
-item-self i = and-both (eq-eqb (i .index .0) (i .index .0) refl) (agree-self (i .tag))
 
 -- and two rows
 pub same-row : (r s : Row) → sameRow r s ≡ true → r ≡ s
@@ -95,11 +81,6 @@ same-row r s e =
 pub rank-self : (i : Item) → ranksBelow i i ≡ false
 unfolding ranksBelow
 rank-self i = below-none (i .index) (i .index) (omega arith)
-
-pub rank-trans : (i j k : Item) → ranksBelow i j ≡ true → ranksBelow j k ≡ true → ranksBelow i k ≡ true
-unfolding ranksBelow
-rank-trans i j k p q =
-    less-below (i .index) (k .index) (omega (arith, below-less (i .index) (j .index) p, below-less (j .index) (k .index) q))
 
 -- not below is an order too
 pub rank-above-trans : (i j k : Item) → ranksBelow j i ≡ false → ranksBelow k j ≡ false → ranksBelow k i ≡ false
@@ -139,20 +120,3 @@ next-incarnation i e = rw e
 pub next-attempt : (a : Attempt) → attemptAtLargest a ≡ false → nextAttempt a .0 ≡ suc (a .0)
 unfolding nextAttempt
 next-attempt a e = rw e
-
--- "incarnation, then attempt, earlier": what it means in numbers
-pub earlier-is : (i : Incarnation) (a : Attempt) (j : Incarnation) (b : Attempt)
-    → earlier i a j b ≡ true → (i .0 < j .0) ⊎ ((i .0 ≡ j .0) × (a .0 < b .0))
-unfolding earlier
-earlier-is i a j b = by-cond (λ t. t ≡ true → (i .0 < j .0) ⊎ ((i .0 ≡ j .0) × (a .0 < b .0))) (ltb (i .0) (j .0)) _ _
-    (λ e h. inl (ltb-true (i .0) (j .0) e))
-    (λ e. by-cond (λ t. t ≡ true → (i .0 < j .0) ⊎ ((i .0 ≡ j .0) × (a .0 < b .0))) (ltb (j .0) (i .0)) _ _
-    (λ e′ h. absurd (false≢true h))
-    (λ e′ h. inr (omega (arith, ltb-false (i .0) (j .0) e, ltb-false (j .0) (i .0) e′), ltb-true (a .0) (b .0) h)))
-
-pub is-earlier : (i : Incarnation) (a : Attempt) (j : Incarnation) (b : Attempt)
-    → (i .0 < j .0) ⊎ ((i .0 ≡ j .0) × (a .0 < b .0)) → earlier i a j b ≡ true
-unfolding earlier
-is-earlier i a j b (inl h) = rw (lt-ltb (i .0) (j .0) h)
-is-earlier i a j b (inr h) =
-    rw (le-ltb (i .0) (j .0) (omega (arith, h .0)), le-ltb (j .0) (i .0) (omega (arith, h .0)), lt-ltb (a .0) (b .0) (h .1))

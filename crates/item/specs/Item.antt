@@ -1,6 +1,6 @@
 -- Items (document 01: "An item is an index with a tag") and how they rank.
-use Prim.Native.Nat.{ℕ, suc}
-use mathlib.Core.Bool.{Bool, true, false, _&&_}
+use Prim.Native.Nat.{suc}
+use mathlib.Core.Bool.{Bool, _&&_}
 use lib.Dec.{eqb}
 use Rattle.item.specs.declared.Tag.{Tag}
 use Rattle.item.specs.declared.Item.{Item}

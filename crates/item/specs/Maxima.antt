@@ -1,6 +1,6 @@
 -- The sizes that document 01 fixes and later requests move, each said here once, and which groups there are.
 use Prim.Native.Nat.{ℕ, _%_}
-use mathlib.Core.Bool.{Bool, true, false, _&&_}
+use mathlib.Core.Bool.{Bool, _&&_}
 use lib.Dec.{leb, eqb}
 
 -- "n odd, 3 to 15": the most nodes of a group, and so the rows of a node ("A node keeps 15 rows")

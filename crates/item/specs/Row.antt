@@ -1,5 +1,5 @@
 -- Rows: what a node keeps of each writer.
-use mathlib.Core.Bool.{Bool, true, false, _&&_, Bool·beq}
+use mathlib.Core.Bool.{Bool, false, _&&_, Bool·beq}
 use Rattle.item.specs.declared.Row.{Row}
 use Rattle.item.specs.Counter.{sameIncarnation, sameAttempt}
 use Rattle.item.specs.Item.{zeroItem, sameItem}

@@ -2,7 +2,7 @@
 use Prim.Native.Nat.{ℕ, _-_, _≤_, _<_}
 use native.Mathlib.Omega.{arith}
 use mathlib.Core.Path.{_≡_, refl, sym, ap, subst, _∙_}
-use mathlib.Core.Bool.{Bool, true, false, not}
+use mathlib.Core.Bool.{true, false, not}
 use mathlib.Core.List.{List}
 use lib.Dec.{leb, ltb, eqb}
 use borrow.Author.Tests.{ltb-true, ltb-false, lt-leb, le-leb, eqb-true}
@@ -32,9 +32,6 @@ use Rattle.laws_enabled.specs.Acting.{acted, isRoomFor}
 use Rattle.laws_enabled.proofs.Sent.{nothing-sent, others-sent, one-sent, asked-sent}
 
 module _ (table : List Node) (store : List ℕ) (rs : List (List ℕ)) (k back : ℕ) where
-  abbrev pub actsAt : Step → Bool
-  actsAt step = acted (carriedOut table store rs k back step)
-
   pub refused-acts : (node : Node) (why : Refusal) → acted (carriedOut table store rs k back (refused node why)) ≡ false
   unfolding carriedOut refused isRefused acted
   refused-acts node why = refl

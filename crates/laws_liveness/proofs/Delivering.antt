@@ -83,9 +83,6 @@ module _ (n : ℕ) (before : Result) (G : LeavesSound n before) (k back : ℕ) (
 
 -- the delivery of the message in record r
 module _ (n : ℕ) (before : Result) (G : LeavesSound n before) (r : ℕ) (e : Envelope) (h : messageIn (recordsOf (before .store)) r ≡ Found e) where
-  abbrev pub stepOf : Step
-  stepOf = deliverStep (nodeAt (before .table) (e .addressee)) e (rowsOf (recordIn (recordsOf (before .store)) r))
-
   deliver-is : deliver before r ≡ carriedOut (before .table) (before .store) (recordsOf (before .store)) (e .addressee) (e .sender)
       (deliverStep (nodeAt (before .table) (e .addressee)) e (rowsOf (recordIn (recordsOf (before .store)) r)))
   unfolding deliver onSound delivered

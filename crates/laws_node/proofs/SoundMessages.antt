@@ -1,6 +1,6 @@
 -- A message that is taken keeps a node sound: a row is stored, a peer is counted or all counted are asked, a write ends, a table
 -- is counted, the own item is written back.
-use Prim.Native.Nat.{ℕ, suc, _+_, _≤_, _<_}
+use Prim.Native.Nat.{ℕ, suc, _≤_, _<_}
 use native.Mathlib.Omega.{arith}
 use mathlib.Core.Path.{_≡_, refl, ap, subst}
 use mathlib.Core.Logic.{_≢_}

@@ -23,7 +23,6 @@ use Rattle.protocol.specs.Sound.{everyFrom, rowUse, rowSound, peerSound, stageC
 use Rattle.protocol.specs.declared.Node.{Node}
 use Rattle.protocol.specs.declared.Peer.{Peer}
 use Rattle.protocol.specs.declared.Phase.{Phase}
-use Rattle.protocol.specs.declared.Phase.the-variants.{Fetching}
 use Rattle.protocol.specs.declared.RowUse.{RowUse}
 use Rattle.protocol.specs.declared.RowUse.the-variants as row-use
 use Rattle.protocol.proofs.Counts.{peerUnder}

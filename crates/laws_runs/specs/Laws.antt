@@ -4,7 +4,7 @@ use Prim.Native.Nat.{ℕ}
 use mathlib.Core.Path.{_≡_}
 use mathlib.Core.Logic.{_≢_}
 use mathlib.Core.Bool.{Bool, true, _&&_}
-use mathlib.Core.List.{List, [], _∷_, List·Memᴰ}
+use mathlib.Core.List.{List, List·Memᴰ}
 use Rattle.protocol.specs.Answer.{refusalNumber}
 use Rattle.operations.specs.Claim.{TagFits, TagsFit}
 use Rattle.operations.specs.Operation.{Result, setUp, perform}

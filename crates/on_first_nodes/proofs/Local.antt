@@ -16,7 +16,7 @@ use base.Logic.{ent, sep}
 use base.Fml.{Fml, fsep, fat}
 use prog.Wp.{Heap}
 use ghost.Atoms.{Atoms, sem}
-use types.Kit.{Given, ‵, _⊛_, _$_, _∵_, !, qed, by, move, use1, use2, drop as drops, split, fsplit, fjoin, fpack, feqI, frame, done}
+use types.Kit.{Given, ‵, _⊛_, _$_, _∵_, !, qed, by, move, use1, use2, drop as drops, split, fsplit, fjoin, fpack, feqI, done}
 use types.SemTy.{cells}
 use types.Share.{arr-parts}
 use denote.RattleType.{RattleType}

@@ -1,10 +1,9 @@
 -- Every list of calls over table and store is a run of the network, call by call. So what is true of the calls of all network
 -- runs and of the nodes that they leave is true of it: `of-every-run`, by which demand 3 is carried over.
 use Prim.Native.Nat.{ℕ, _≤_}
-use mathlib.Core.Path.{_≡_, refl, sym, subst}
-use mathlib.Core.Bool.{true}
+use mathlib.Core.Path.{_≡_, refl, subst}
 use mathlib.Core.List.{List, [], _∷_, List·Memᴰ}
-use Rattle.item.specs.Maxima.{maxNodes, validSize}
+use Rattle.item.specs.Maxima.{maxNodes}
 use Rattle.message.specs.declared.Envelope.{Envelope}
 use Rattle.message.specs.declared.Reading.the-variants.{Found}
 use Rattle.record.specs.Layout.{rowsOf}

@@ -1,7 +1,7 @@
 -- Demand 3 of the nodes of a network: where a call of a run returns, the invariant at that point allows the item, and the
 -- history says what the calls before tell.
 use Prim.Native.Nat.{ℕ, suc, _<_}
-use mathlib.Core.Path.{_≡_, ap, subst, _∙_}
+use mathlib.Core.Path.{ap, subst, _∙_}
 use mathlib.Core.Logic.{inl, inr}
 use mathlib.Core.Bool.{true, false≢true}
 use mathlib.Core.List.{List}

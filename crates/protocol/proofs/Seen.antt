@@ -2,7 +2,7 @@
 -- of a node is a projection of its fields.
 use Prim.Native.Nat.{ℕ}
 use mathlib.Core.Path.{_≡_}
-use mathlib.Core.Bool.{Bool, true, false, cond}
+use mathlib.Core.Bool.{true, cond}
 use mathlib.Core.List.{List, [], _∷_, List·Memᴰ}
 use lib.Dec.{eqb}
 use lib.ListN.{getD}
@@ -34,7 +34,7 @@ use Rattle.returns.specs.View.{
   View,
   Each,
 }
-use Rattle.returns.specs.History.{Note, quiet, begins, settles, returns}
+use Rattle.returns.specs.History.{Note, quiet, settles, returns}
 use Rattle.returns.specs.Change.{Change, MaySend}
 use Rattle.protocol.specs.Node.{rowOf, peerOf, rowItems}
 use Rattle.protocol.specs.Outgoing.{outgoing}

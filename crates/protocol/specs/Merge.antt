@@ -1,6 +1,6 @@
 -- The greatest items of the tables counted so far, one for each row, and the rows whose greatest index came with two tags.
 use Prim.Native.Nat.{ℕ, zero, suc}
-use mathlib.Core.Bool.{Bool, true, false, cond}
+use mathlib.Core.Bool.{Bool, true, cond}
 use mathlib.Core.List.{List, [], _∷_}
 use Rattle.item.specs.Item.{ranksBelow, sameItem}
 use Rattle.item.specs.declared.Item.{Item}

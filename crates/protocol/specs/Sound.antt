@@ -2,7 +2,7 @@
 -- fields zero; those it counted are below n, not itself, and fewer than f (Storing, Confirming) or f+1 (Fetching); those
 -- asked to confirm are exactly f others below n, and the counted are among them."
 use Prim.Native.Nat.{ℕ, zero, suc}
-use mathlib.Core.Bool.{Bool, true, false, cond, not, _&&_}
+use mathlib.Core.Bool.{Bool, true, cond, not, _&&_}
 use mathlib.Core.List.{List, [], _∷_}
 use lib.Dec.{ltb, eqb}
 use Rattle.item.specs.Counter.{sameIncarnation, sameAttempt}

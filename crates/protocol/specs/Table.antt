@@ -1,9 +1,9 @@
 -- The table (document 01: "a lent list of n node records") as a list of nodes of any length.
 use Prim.Native.Nat.{ℕ, zero, suc}
-use mathlib.Core.Bool.{Bool, true, false, _&&_}
+use mathlib.Core.Bool.{Bool, _&&_}
 use mathlib.Core.List.{List, [], _∷_}
 use lib.Dec.{eqb}
-use lib.ListN.{length, getD, set}
+use lib.ListN.{length, getD}
 use Rattle.protocol.specs.Node.{blankNode, freshNode}
 use Rattle.protocol.specs.Sound.{soundNode, everyFrom}
 use Rattle.protocol.specs.declared.Node.{Node}

@@ -1,5 +1,5 @@
 -- Write, Retry, Crash and Start of one node (document 01, Operations), with refusals 5 and 6; 7 is the store's.
-use mathlib.Core.Bool.{Bool, true, false, cond, _||_}
+use mathlib.Core.Bool.{Bool, cond, _||_}
 use Rattle.item.specs.Counter.{indexAtLargest, nextIndex, incarnationAtLargest, attemptAtLargest, nextAttempt}
 use Rattle.item.specs.declared.Item.{Item}
 use Rattle.item.specs.declared.Tag.{Tag}

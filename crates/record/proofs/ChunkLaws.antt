@@ -2,42 +2,17 @@
 -- same chunks.
 use Prim.Native.Nat.{ℕ, zero, suc, _+_, _*_, _≤_, _<_}
 use mathlib.Core.Path.{_≡_, refl, sym, ap, _∙_}
-use mathlib.Core.Logic.{_≢_, inl, inr}
 use mathlib.Core.List.{List, [], _∷_, _++_, append-assoc}
 use native.Mathlib.Omega.{arith}
 use native.Mathlib.Nat.{suc-mul, zero-mul, mul-le-mul-right, zero-add, add-comm, le-refl, not-suc-le-zero, le-of-suc-le-suc}
 use lib.ListN.{length, take, drop, getD, set, length-drop}
 use lib.Seq.{drop-drop, take-add, take-at, drop-at, length-take-le}
-use Rattle.endian.proofs.PartLaws.{by-order, part-is, part-with, part-with-other, length-part, length-with, with-is}
+use Rattle.endian.proofs.PartLaws.{part-is, with-is}
 use Rattle.record.specs.Chunk.{chunk, withChunk, cut}
 
 -- an earlier chunk ends before a later one begins
 ends-before : (size i j : ℕ) → i < j → i * size + size ≤ j * size
 ends-before size i j h = rw (← suc-mul i size) (mul-le-mul-right size h)
-
-module _ (size : ℕ) (s : List ℕ) (i : ℕ) where
-  pub length-chunk : i * size + size ≤ length s → length (chunk size s i) ≡ size
-  unfolding chunk
-  length-chunk h = length-part size s (i * size) h
-
-  module _ (c : List ℕ) (long : length c ≡ size) where
-    pub length-with-chunk : length (withChunk size s i c) ≡ length s
-    unfolding withChunk
-    length-with-chunk = length-with size s (i * size) c long
-
-    -- what was written is there
-    pub chunk-with : i * size + size ≤ length s → chunk size (withChunk size s i c) i ≡ c
-    unfolding chunk withChunk
-    chunk-with h = part-with size s (i * size) c long h
-
-    -- and every other chunk is as it was
-    pub chunk-with-other : (j : ℕ) → j ≢ i → chunk size (withChunk size s i c) j ≡ chunk size s j
-    unfolding chunk withChunk
-    chunk-with-other j d =
-        part-with-other size s (i * size) c long size (j * size)
-        (by-order i j
-        (λ h. inr (ends-before size i j (omega (arith, d))))
-        (λ h. inl (ends-before size j i h)))
 
 -- ---- a list cut once
 

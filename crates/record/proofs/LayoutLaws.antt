@@ -22,10 +22,6 @@ use Rattle.record.specs.Layout.{recordSize, nextAt, kindAt, addressAt, i
 pub length-mapped : {X Y : Type 0} (f : X → Y) (l : List X) (n : ℕ) → length (map f l) ≡ n → length l ≡ n
 length-mapped f l n p = sym (length-map l f) ∙ p
 
--- the last row ends where the record does
-pub rows-fill : rowsAt + maxNodes * rowSize ≡ recordSize
-rows-fill = refl
-
 pub length-item : (i : Item) → length (itemBytes i) ≡ rowSize
 unfolding itemBytes
 length-item i = simp (length-append, length-bytes)

@@ -1,19 +1,17 @@
 -- Laws of one record.
 use Prim.Native.Nat.{ℕ, _+_, _-_, _*_, _%_, _≤_, _<_}
-use mathlib.Core.Path.{_≡_, sym, ap, _∙_}
-use mathlib.Core.Bool.{true, false}
+use mathlib.Core.Path.{_≡_, ap}
+use mathlib.Core.Bool.{true}
 use mathlib.Core.List.{List, []}
 use borrow.Author.Tests.{eq-eqb}
 use borrow.Rule.Slice.PartMut.{putMid}
-use native.Mathlib.Omega.{arith}
 use lib.ListN.{length, take, drop}
-use lib.Seq.{drop-drop}
 use Rattle.endian.specs.Part.{withPart}
-use Rattle.endian.proofs.PartLaws.{take-of-drop, part-is, part-none, length-part, lent, put-back, with-none}
+use Rattle.endian.proofs.PartLaws.{part-none, length-part, lent, put-back, with-none}
 use Rattle.endian.specs.Number.{withNumber}
 use Rattle.endian.proofs.NumberLaws.{bytes-low}
 use Rattle.record.specs.Chunk.{chunk, withChunk}
-use Rattle.record.specs.Layout.{recordOf, withRecord, recordSize, kindAt, fieldsIn}
+use Rattle.record.specs.Layout.{recordOf, withRecord, recordSize, fieldsIn}
 use Rattle.message.specs.declared.Message.{Message}
 use Rattle.record.specs.declared.kinds.Fields.{Fields}
 use Rattle.record.specs.declared.kinds.Known.the-variants as known
@@ -48,17 +46,6 @@ module _ (s : List ℕ) (i : ℕ) where
       → take (i * recordSize + recordSize - i * recordSize) (drop (i * recordSize) s) ≡ recordOf s i
   unfolding recordOf chunk
   record-lent h = lent recordSize s (i * recordSize) h
-
-  -- all of it after next
-  pub rest-lent : i * recordSize + recordSize ≤ length s
-      → take (i * recordSize + recordSize - (i * recordSize + kindAt)) (drop (i * recordSize + kindAt) s) ≡ drop kindAt (recordOf s i)
-  unfolding recordOf chunk
-  rest-lent h =
-      let e : i * recordSize + recordSize - (i * recordSize + kindAt) ≡ recordSize - kindAt = omega arith in
-      ap (λ (k : ℕ). take k (drop (i * recordSize + kindAt) s)) e
-      ∙ ap (take (recordSize - kindAt)) (sym (drop-drop kindAt (i * recordSize) s))
-      ∙ take-of-drop (recordSize - kindAt) kindAt (drop (i * recordSize) s)
-      ∙ ap (drop kindAt) (sym (part-is recordSize s (i * recordSize) h))
 
   -- and has it back as r
   pub record-back : (r : List ℕ) → i * recordSize + recordSize ≤ length s

@@ -1,12 +1,12 @@
 -- Reading undoes writing, writing undoes reading, and different messages have different bytes: for every kind, group,
 -- number and row.
-use Prim.Native.Nat.{ℕ, zero, _^_, _<_}
+use Prim.Native.Nat.{ℕ, _^_, _<_}
 use mathlib.Core.Path.{_≡_}
 use mathlib.Core.List.{List, [], _∷_}
 use Rattle.item.specs.Maxima.{tagSize}
 use Rattle.item.specs.declared.Item.{Item}
 use Rattle.message.specs.declared.Envelope.{Envelope}
-use Rattle.endian.specs.Number.{bytes, AreBytes}
+use Rattle.endian.specs.Number.{AreBytes}
 use Rattle.record.specs.declared.kinds.Fields.{Fields}
 use Rattle.message.specs.declared.Reading.the-variants.{Found}
 use Rattle.record.specs.Layout.{indexSize, rowsOf, nextOf, heldRows}

@@ -12,7 +12,6 @@ use Rattle.message.specs.declared.Reading.the-variants as reading
 use Rattle.record_read.specs.Readable.{isFound, readable}
 use Rattle.record_read.proofs.ReadableLaws.{fields-found}
 use Rattle.record_read.specs.Ends.{endsOf}
-use Rattle.record_read.specs.declared.endpoints.Ends.{Ends}
 use Rattle.record_read.specs.declared.endpoints.Ends.the-variants as ends
 
 -- no message has no ends

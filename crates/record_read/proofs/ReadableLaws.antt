@@ -5,7 +5,7 @@ use mathlib.Core.Bool.{true, false, false≢true}
 use mathlib.Core.List.{List}
 use native.Mathlib.Omega.{arith}
 use lib.Dec.{eqb}
-use lib.ListN.{length, getD, drop}
+use lib.ListN.{length, drop}
 use Rattle.item.specs.Maxima.{maxNodes}
 use Rattle.item.specs.Tests.{by-cond, and-left}
 use Rattle.message.specs.declared.Message.{Message}
@@ -16,7 +16,7 @@ use Rattle.record.specs.Kind.{tableKind, kindOf, fieldsOf, messageOf, rowsHeld}
 use Rattle.record.specs.declared.kinds.Fields.{Fields}
 use Rattle.record.specs.declared.kinds.Known.{Known}
 use Rattle.record.specs.declared.kinds.Known.the-variants as known
-use Rattle.record.specs.Layout.{recordSize, kindAt, rowsAt, rowSize, fieldsIn}
+use Rattle.record.specs.Layout.{recordSize, rowsAt, rowSize, fieldsIn}
 use Rattle.record.specs.Record.{readRecord, readAs, zeroAfterRows, envelopeOf}
 use Rattle.record.proofs.RoundTripLaws.{fields-again}
 use Rattle.message.specs.declared.Reading.{Reading}

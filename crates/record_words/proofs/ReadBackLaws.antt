@@ -1,30 +1,28 @@
 -- Numbers that were written as a record are read back from it.
-use Prim.Native.Nat.{ℕ, zero, suc, _+_, _-_, _*_, _^_, _≤_, _<_}
+use Prim.Native.Nat.{ℕ, zero, suc, _+_, _-_, _*_, _≤_, _<_}
 use native.Mathlib.Omega.{arith}
 use mathlib.Core.Path.{_≡_, refl, sym, ap, _∙_}
 use mathlib.Core.Bool.{Bool, true, false, cond, false≢true}
-use mathlib.Core.List.{List, [], _∷_, _++_}
+use mathlib.Core.List.{List, [], _∷_}
 use lib.ListN.{length, getD, take, drop, replicate, length-replicate, drop-of-length-le, getD-replicate, List·getD-eq-default}
 use lib.Seq.{drop-cons, getD-drop}
 use Rattle.item.specs.Maxima.{maxNodes}
-use Rattle.item.specs.Item.{zeroItem}
-use Rattle.item.specs.Tests.{by-cond}
 use Rattle.item.specs.declared.Item.{Item}
 use Rattle.message.specs.declared.Envelope.{Envelope}
 use Rattle.message.specs.declared.Message as kind
 use Rattle.endian.proofs.PartLaws.{by-order}
 use Rattle.endian.specs.Zero.{zeros, allZero}
-use Rattle.endian.proofs.ZeroLaws.{all-zero-is, length-zeros}
+use Rattle.endian.proofs.ZeroLaws.{all-zero-is}
 use Rattle.record.specs.Kind.{fieldsOf, messageOf, rowsHeld}
 use Rattle.record.specs.declared.kinds.Fields.{Fields}
 use Rattle.record.specs.declared.kinds.Known.{Known}
 use Rattle.record.specs.declared.kinds.Known.the-variants as known
-use Rattle.record.specs.Layout.{padded, heldRows, layoutBytes, nextOf, rowsOf}
+use Rattle.record.specs.Layout.{padded, heldRows, layoutBytes, rowsOf}
 use Rattle.record.specs.Record.{envelopeOf, recordBytes, readRecord}
 use Rattle.record.specs.RoundTrip.{ItemFits, RowsFit, FieldsFit, Fits, ReadsBack}
 use Rattle.record.proofs.RoundTripLaws.{reads-back, fields-again}
-use Rattle.message.specs.declared.Reading.the-variants.{Found, Fault}
-use Rattle.record_words.specs.Numbers.{rowsFirst, rowsCount, numberCount, fieldNumbers, rowNumbers, numbersOf, itemFrom, fieldsFrom, itemsFrom, rowsFrom, numbersFit, statedAs, stated, numbersAs, recordNumbers, bytesAs, numbersBytes, isFound, isStated}
+use Rattle.message.specs.declared.Reading.the-variants.{Found}
+use Rattle.record_words.specs.Numbers.{rowsFirst, numberCount, fieldNumbers, rowNumbers, numbersOf, itemFrom, fieldsFrom, itemsFrom, rowsFrom, numbersFit, statedAs, stated, numbersAs, recordNumbers, bytesAs, numbersBytes, isFound, isStated}
 use Rattle.record_words.proofs.NumberLaws.{Fit, fit-is}
 use Rattle.record_words.specs.declared.words.Stated.{Stated}
 use Rattle.record_words.specs.declared.words.Stated.the-variants.{Message, Refused}

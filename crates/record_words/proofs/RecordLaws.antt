@@ -15,7 +15,7 @@ use Rattle.endian.proofs.PartLaws.{with-all}
 use Rattle.record.specs.declared.kinds.Fields.{Fields}
 use Rattle.record.specs.Layout.{rowsOf, nextOf, nextAt, fieldsIn, layoutBytes, recordSize, recordOf, withRecord}
 use Rattle.record.proofs.LayoutLaws.{length-layout}
-use Rattle.record_words.specs.Numbers.{numberCount, rowsFirst, fieldNumbers, rowNumbers, numbersOf, fieldsFrom, rowsFrom, stated, numbersAs, recordNumbers, numbersBytes, isFound, isStated}
+use Rattle.record_words.specs.Numbers.{numberCount, fieldNumbers, rowNumbers, numbersOf, fieldsFrom, rowsFrom, stated, numbersAs, recordNumbers, numbersBytes, isFound, isStated}
 use Rattle.record_words.proofs.NumberLaws.{length-field-numbers, length-row-numbers, length-rows-from, length-rows-in}
 use Rattle.record_words.proofs.ReadBackLaws.{bytes-straight}
 use Rattle.record.specs.Record.{readRecord}

@@ -7,7 +7,6 @@ use lib.Dec.{eqb, ltb}
 use lib.ListN.{length, getD, drop}
 use Rattle.item.specs.Maxima.{maxNodes}
 use Rattle.item.specs.declared.Item.{Item}
-use Rattle.message.specs.declared.Envelope.{Envelope}
 use Rattle.endian.specs.Zero.{allZero}
 use Rattle.record.specs.Kind.{fieldsOf, messageOf, rowsHeld}
 use Rattle.record.specs.declared.kinds.Fields.{Fields}

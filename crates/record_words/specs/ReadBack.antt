@@ -1,5 +1,5 @@
 -- Numbers that were written as a record are read back from it.
-use Prim.Native.Nat.{ℕ, _-_, _^_, _<_}
+use Prim.Native.Nat.{ℕ, _^_, _<_}
 use mathlib.Core.Path.{_≡_}
 use mathlib.Core.Bool.{true}
 use mathlib.Core.List.{List}

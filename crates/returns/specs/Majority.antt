@@ -22,10 +22,6 @@ unfoldable pub count : (ℕ → Bool) → ℕ → ℕ
 count a zero = 0
 count a (suc n) = bit (a n) + count a n
 
-bit-le : (b : Bool) → bit b ≤ 1
-bit-le true = omega arith
-bit-le false = omega arith
-
 -- a number below n that two sets share
 pub record Both (a b : ℕ → Bool) (n : ℕ) : Type 0 where
   pub at : ℕ

@@ -4,11 +4,11 @@ use native.Mathlib.Numerals.{add-one}
 use native.Mathlib.Omega.{arith}
 use mathlib.Core.Path.{_≡_, refl, sym, ap, _∙_}
 use mathlib.Core.Bool.{Bool, true, false, _&&_}
-use mathlib.Core.List.{List, [], _∷_, _++_, append-nil}
+use mathlib.Core.List.{List, [], _∷_}
 use lib.Dec.{ltb, leb, eqb}
-use lib.ListN.{length, getD, take, drop, set, drop-of-length-le, length-drop, length-set, length-take, length-append}
-use lib.Seq.{drop-cons, take-all, take-suc-set, take-append-le, length-take-le, append-snoc}
-use borrow.Author.Tests.{ltb-true, ltb-false, leb-true, leb-false, ne-eqb}
+use lib.ListN.{length, getD, take, drop, drop-of-length-le, length-drop}
+use lib.Seq.{drop-cons, take-all}
+use borrow.Author.Tests.{ltb-true, ltb-false, ne-eqb}
 use Rattle.item.specs.Tests.{by-cond}
 use Rattle.script.specs.Bytes.{space}
 use Rattle.script.specs.Number.{numberIn}

@@ -119,12 +119,6 @@ unfolding numberIn numberFrom decimalOf
 reads-back v h =
     rw (ne-eqb (length (digitsOf 20 v)) 0 (λ z. omega (arith, digits-some 19 v)), no-leading v h, digits-all 20 v, digits-value 19 v (omega arith), lt-ltb v (2 ^ 64) h)
 
--- so two numbers that are written alike are the same
-pub decimal-same : (v w : ℕ) → v < 2 ^ 64 → w < 2 ^ 64 → decimalOf v ≡ decimalOf w → v ≡ w
-decimal-same v w h k e =
-    let i : Is v ≡ Is w = sym (reads-back v h) ∙ ap numberIn e ∙ reads-back w k in
-    cc
-
 -- text written after text is written at once
 pub sets-after : (l : List ℕ) (i : ℕ) (xs ys : List ℕ) (k : ℕ) → k ≡ i + length xs → sets (sets l i xs) k ys ≡ sets l i (xs ++ ys)
 sets-after l i [] ys k e = let z : k ≡ i = omega arith in rw z

@@ -1,14 +1,14 @@
 -- Lent bytes against records: a record read or written at its place in the bytes is the record of the list, and so are
 -- the head's fields. One law for each, cited wherever code over bytes meets a definition over records.
 use Prim.Native.Nat.{ℕ, zero, suc, _+_, _-_, _*_, _≤_, _<_}
-use mathlib.Core.Path.{_≡_, refl, sym, ap, _∙_}
+use mathlib.Core.Path.{_≡_, sym, ap, _∙_}
 use mathlib.Core.Logic.{_≢_}
-use mathlib.Core.Bool.{Bool, true, false, cond}
-use mathlib.Core.List.{List, [], _∷_, _++_}
+use mathlib.Core.Bool.{Bool, true, false}
+use mathlib.Core.List.{List, [], _++_}
 use native.Mathlib.Omega.{arith}
 use borrow.Author.Tests.{eq-eqb, ne-eqb}
 use lib.Dec.{eqb}
-use lib.ListN.{length, take, drop, getD, set, length-set, length-drop, drop-of-length-le, take-append-drop, List·getD-eq-default}
+use lib.ListN.{length, take, drop, getD, set, length-set, drop-of-length-le, take-append-drop, List·getD-eq-default}
 use lib.Seq.{getD-take, take-take, set-out, set-append-left, length-take-le, take-all, drop-drop}
 use Rattle.endian.specs.Part.{part, whole}
 use Rattle.endian.proofs.PartLaws.{by-order, take-of-drop, part-is, with-is, with-none}
@@ -17,7 +17,7 @@ use Rattle.endian.proofs.NumberLaws.{number-none, length-with-number}
 use Rattle.endian.specs.Zero.{allZero}
 use Rattle.endian.proofs.ZeroLaws.{length-zeros}
 use Rattle.record.specs.Chunk.{cut, chunk, withChunk}
-use Rattle.record.proofs.ChunkLaws.{cut-chunk, cut-with, length-with-chunk}
+use Rattle.record.proofs.ChunkLaws.{cut-chunk, cut-with}
 use Rattle.record.specs.Layout.{recordSize, nextAt, recordOf, withRecord, nextOf}
 use Rattle.record.proofs.RecordLaws.{record-none, length-record-of, with-record-none}
 use Rattle.record.specs.Record.{withNext, noRecord}

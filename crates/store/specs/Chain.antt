@@ -4,7 +4,7 @@ use Prim.Native.Nat.{ℕ, zero, suc}
 use mathlib.Core.Bool.{Bool, true, false, cond}
 use mathlib.Core.List.{List, [], _∷_}
 use lib.Dec.{eqb}
-use lib.ListN.{getD, set, length}
+use lib.ListN.{getD, set}
 use Rattle.record.specs.Layout.{nextOf}
 use Rattle.store.specs.Records.{recordIn}
 use Rattle.store.specs.declared.Walked.{Walked}

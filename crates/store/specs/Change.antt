@@ -1,20 +1,17 @@
 -- The changes of a store: a message put, a message dropped, and set-up (document 01: "Records are taken from the head of
 -- the free chain and put at the inbox's end; a dropped one is cleared and becomes the free head, so it is taken again").
-use Prim.Native.Nat.{ℕ, zero, suc, _%_, _/_}
-use mathlib.Core.Bool.{Bool, true, false, cond}
-use mathlib.Core.List.{List, [], _∷_, _++_}
+use Prim.Native.Nat.{ℕ, zero, suc, _%_}
+use mathlib.Core.Bool.{cond}
+use mathlib.Core.List.{List, [], _∷_}
 use lib.Dec.{eqb}
 use lib.ListN.{length, set}
-use Rattle.endian.specs.Number.{bytes, withNumber}
-use Rattle.endian.specs.Zero.{zeros}
+use Rattle.endian.specs.Number.{withNumber}
 use Rattle.item.specs.declared.Item.{Item}
 use Rattle.message.specs.declared.Envelope.{Envelope}
 use Rattle.message.specs.declared.Outgoing.{Outgoing}
-use Rattle.record.specs.Layout.{recordSize, nextAt}
+use Rattle.record.specs.Layout.{nextAt}
 use Rattle.record.specs.Record.{recordBytes, withNext, noRecord}
-use Rattle.message.specs.declared.Reading.{Reading}
-use Rattle.message.specs.declared.Reading.the-variants.{Found, Fault}
-use Rattle.store.specs.Records.{recordCount, recordIn, joined, onRecords}
+use Rattle.store.specs.Records.{recordCount, recordIn, onRecords}
 use Rattle.store.specs.Head.{sizeAt, firstFree, groupSize, firstOf, withFirstFree, withFirstOf}
 use Rattle.store.specs.Chain.{nextIn, lastFrom, beforeFrom}
 

@@ -1,12 +1,12 @@
 -- The head (document 01: "Record 0 is the head: bytes 0-1 first free record, byte 2 n, byte 3 zero, from byte 4 two bytes
 -- for each node's first inbox record, the rest zero"). Its fields are read and changed only here.
-use Prim.Native.Nat.{ℕ, suc, _+_, _*_}
-use mathlib.Core.Bool.{Bool, true, false, _&&_}
-use mathlib.Core.List.{List, [], _∷_, _++_}
+use Prim.Native.Nat.{ℕ, _+_, _*_}
+use mathlib.Core.Bool.{Bool, _&&_}
+use mathlib.Core.List.{List}
 use lib.Dec.{eqb}
 use lib.ListN.{getD, set, drop}
 use Rattle.endian.specs.Number.{numberAt, withNumber}
-use Rattle.endian.specs.Zero.{allZero, zeros}
+use Rattle.endian.specs.Zero.{allZero}
 use Rattle.store.specs.Records.{recordIn}
 
 -- where the head's fields begin

@@ -1,7 +1,7 @@
 -- A store as the list of its records (document 01, Message store: "The store is 65,280 bytes: 240 records of 272 bytes").
 -- Everything about chains is said of the list of records; here is how the bytes give it and come back from it.
 use Prim.Native.Nat.{ℕ, _*_}
-use mathlib.Core.Bool.{Bool, true, false, cond}
+use mathlib.Core.Bool.{Bool, cond}
 use mathlib.Core.List.{List, [], _∷_, _++_}
 use lib.Dec.{eqb}
 use lib.ListN.{length, getD}

@@ -7,7 +7,6 @@ use mathlib.Core.List.{List, [], _∷_}
 use lib.Dec.{eqb, ltb}
 use lib.ListN.{length, replicate, set}
 use Rattle.item.specs.Maxima.{validSize}
-use Rattle.message.specs.declared.Envelope.{Envelope}
 use Rattle.record.specs.Record.{readRecord, zeroAfterNext}
 use Rattle.message.specs.declared.Reading.{Reading}
 use Rattle.message.specs.declared.Reading.the-variants.{Found, Fault}

@@ -1,6 +1,6 @@
 -- A turn of each loop of the survey, and where it stops: what is left to do gives the answer.
 use Prim.Native.Nat.{ℕ, zero, suc, _+_, _-_, _*_, _<_}
-use mathlib.Core.Path.{_≡_, refl, sym, ap, _∙_}
+use mathlib.Core.Path.{_≡_, refl, sym, ap}
 use mathlib.Core.Bool.{Bool, true, false, cond, _&&_, and-assoc, and-true}
 use mathlib.Core.List.{List, [], _∷_, _++_}
 use native.Mathlib.Omega.{arith}
@@ -10,7 +10,6 @@ use lib.Seq.{take-suc}
 use Rattle.item.specs.Maxima.{validSize}
 use Rattle.record.specs.Layout.{recordSize}
 use Rattle.store.specs.declared.Walked.{Walked}
-use Rattle.store.specs.declared.Survey.{Survey}
 use Rattle.store.specs.declared.chain.Chain.the-variants.{Free, Inbox}
 use Rattle.store.specs.Records.{recordCount, recordsOf}
 use Rattle.store.proofs.Joined.{records-count}

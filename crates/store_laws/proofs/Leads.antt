@@ -8,7 +8,6 @@ use native.Mathlib.Omega.{arith}
 use native.Mathlib.Nat.{not-suc-le-zero, le-of-suc-le-suc}
 use borrow.Author.Tests.{eq-eqb, ne-eqb}
 use lib.ListN.{length}
-use Rattle.store.specs.Head.{firstFree, firstOf}
 use Rattle.store.specs.Chain.{nextIn, chainFrom, lastFrom, beforeFrom}
 use Rattle.store_laws.specs.Lists.{times}
 use Rattle.store_laws.proofs.Times.{times-head, times-other, times-rest, stands-head, stands-tail}

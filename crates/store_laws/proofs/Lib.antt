@@ -12,5 +12,4 @@ pub mod Widths
 pub mod PutEach
 pub mod Drop
 pub mod Empty
-pub mod Stores
 pub mod Held

@@ -280,10 +280,3 @@ some-free rs s h z = go (freeList rs) (sound-chains rs s .free-chain) (omega (ar
     go : (l : List ℕ) → Leads rs (firstFree rs) l 0 → 0 < length l → ⊥
     go [] p b = omega arith
     go (x ∷ l) p b = p .1 (p .0 ∙ z)
-
-pub none-free : (rs : List (List ℕ)) → soundRecords rs ≡ true → freeCount rs ≡ 0 → firstFree rs ≡ 0
-none-free rs s e =
-    by-same (firstFree rs) 0 (λ z. z)
-    (λ d.
-    let cut = uncons rs (firstFree rs) (freeList rs) (sound-chains rs s .free-chain) d in
-    absurd (omega (arith, free-count rs s, ap length (cut .1))))

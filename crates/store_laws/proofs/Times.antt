@@ -21,10 +21,6 @@ bit-same x r e = ap bit (eq-eqb x r e)
 pub bit-other : (x r : ℕ) → x ≢ r → bit (eqb x r) ≡ 0
 bit-other x r d = ap bit (ne-eqb x r d)
 
-pub bit-most : (b : Bool) → bit b ≤ 1
-bit-most true = omega arith
-bit-most false = omega arith
-
 pub bit-true : (b : Bool) → bit b ≡ 1 → b ≡ true
 bit-true true e = refl
 bit-true false e = absurd (omega arith)

@@ -3,7 +3,7 @@ use Rattle.event.proofs.Laws.{at-none, at-some}
 use native.Mathlib.Omega.{arith}
 use Rattle.event.specs.Act.{Outcome, handedBack}
 use denote.Ref.{now}
-use mathlib.Core.Path.{_≡_, refl, sym, ap, _∙_}
+use mathlib.Core.Path.{sym, ap, _∙_}
 use borrow.Author.Needs.{needs}
 use Rattle.act.proofs.at_node.Statement.{statement}
 use Rattle.act.proofs.at_node.Tie as tie

@@ -1,5 +1,5 @@
 -- `take_piece` is safe and ends: each turn takes a part of the piece, and prints within `out`.
-use Prim.Native.Nat.{_+_, _-_, _<_, _≤_}
+use Prim.Native.Nat.{_-_, _≤_}
 use native.Mathlib.Omega.{arith}
 use mathlib.Core.Path.{_≡_, refl, sym}
 use lib.ListN.{length, length-take, length-drop}

@@ -1,5 +1,4 @@
 -- `drill_run::feed`: the piece begins where the drill stands, and its lines are taken from there.
-use Prim.Native.Nat.{ℕ}
 use native.Mathlib.Omega.{arith}
 use borrow.Author.Needs.{needs}
 use Rattle.drill_run.proofs.feed.Statement.{statement}

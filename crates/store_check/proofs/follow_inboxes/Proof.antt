@@ -1,5 +1,5 @@
 -- `store_check::follow_inboxes` meets its contract. The invariant: what is left to follow gives the answer.
-use Prim.Native.Nat.{ℕ, _+_, _-_, _*_, _≤_, _<_}
+use Prim.Native.Nat.{ℕ, _-_, _*_, _≤_}
 use mathlib.Core.Path.{_≡_, refl, sym, ap, _∙_}
 use native.Mathlib.Omega.{arith}
 use denote.Ref.{now}

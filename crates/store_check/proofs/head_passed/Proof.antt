@@ -1,9 +1,7 @@
 -- `store_check::head_passed` meets its contract, as it stands.
 use Rattle.store.specs.Sound.{headPassed}
-use denote.Ref.{now}
-use native.Mathlib.Omega.{arith}
-use mathlib.Core.Path.{_≡_, refl, sym, ap, _∙_}
-use Prim.Native.Nat.{ℕ, _+_, _-_, _*_, _≤_, _<_}
+use mathlib.Core.Path.{refl}
+use Prim.Native.Nat.{_-_}
 use borrow.Author.Needs.{needs}
 use Rattle.store_check.proofs.head_passed.Statement.{statement}
 use Rattle.store_check.proofs.head_passed.Tie as tie

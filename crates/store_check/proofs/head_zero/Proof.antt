@@ -1,11 +1,11 @@
 -- `store_check::head_zero` meets its contract: the spare byte, and the head from the end of its fields on, which is a part of the bytes.
 use Rattle.endian.specs.Zero.{allZero}
 use Rattle.store.proofs.Lent.{head-rest, head-rest-none, head-zero-is, head-spare}
-use Rattle.store.specs.Head.{headZero, inboxAt}
+use Rattle.store.specs.Head.{inboxAt}
 use denote.Ref.{now}
 use native.Mathlib.Omega.{arith}
-use mathlib.Core.Path.{_≡_, refl, sym, ap, _∙_}
-use Prim.Native.Nat.{ℕ, _+_, _-_, _*_, _≤_, _<_}
+use mathlib.Core.Path.{sym, ap, _∙_}
+use Prim.Native.Nat.{_+_, _-_, _*_}
 use borrow.Author.Needs.{needs}
 use Rattle.store_check.proofs.head_zero.Statement.{statement}
 use Rattle.store_check.proofs.head_zero.Tie as tie

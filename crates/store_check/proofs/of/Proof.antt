@@ -1,15 +1,12 @@
 -- `store_check::of` meets its contract: each way out by one law of `Passing`, the last two by the same.
-use Prim.Native.Nat.{ℕ, _+_, _-_, _*_, _≤_, _<_}
-use mathlib.Core.Path.{_≡_, refl, sym, ap, _∙_}
-use native.Mathlib.Omega.{arith}
+use Prim.Native.Nat.{_-_}
+use mathlib.Core.Path.{sym, _∙_}
 use denote.Ref.{now}
-use mathlib.Core.Bool.{cond}
 use Rattle.item.specs.Tests.{refuted, granted}
 use borrow.Author.Tests.{ne-eqb, not-true, not-false}
-use Rattle.item.specs.Maxima.{validSize}
 use lib.ListN.{length}
 use Rattle.store.specs.Records.{rightLength}
-use Rattle.store.specs.Sound.{allPassed, survey}
+use Rattle.store.specs.Sound.{survey}
 use Rattle.store_check.proofs.Passing.{survey-size, survey-head, survey-is, free-is}
 use borrow.Author.Needs.{needs}
 use Rattle.store_check.proofs.of.Statement.{statement}

@@ -5,7 +5,7 @@
 use mathlib.Core.Path.{_≡_, refl, sym, _∙_, ap, subst}
 use mathlib.Core.Bool.{Bool, true, false, not}
 use mathlib.Core.WellFounded.{WellFounded, InvImage·wf}
-use Prim.Native.Nat.{ℕ, _<_, _^_}
+use Prim.Native.Nat.{ℕ, _<_}
 use mathlib.Core.List.{List, [], _∷_}
 use lib.WfN.{Nat·lt-wfRel}
 use lib.Dec.{T}
@@ -28,7 +28,7 @@ use types.Part.{agg, whole, sub, look-in}
 use types.Run.{look, store, init, forget, stop, hop, fld, from, load, addr, of-opd, and-then, no-more, assigns, land, land-last, first as at-first, skips, jumps, blocks, branches, returns, exec, again, loops, Below, enter, alloc1, alloc0, params1, pass1, pass0, free1, free0}
 use types.Tokens.{lft-new, lft-end}
 use sound.WpLaws.{FmC, fmOf, WpFn-mono}
-use denote.RattleType.{RattleType, owns}
+use denote.RattleType.{owns}
 use denote.Laws.{Is, shows}
 use denote.Builtin.{u8}
 use denote.Ref.{RefT}

@@ -1,6 +1,6 @@
 -- `endian::read::read_u16` meets its contract: 0 past the end, else the number of two bytes, by `number-two`.
 -- A byte is below 256, so neither product nor sum wraps.
-use Prim.Native.Nat.{_+_, _≤_}
+use Prim.Native.Nat.{_+_}
 use mathlib.Core.Path.{sym}
 use native.Mathlib.Omega.{arith}
 use lib.ListN.{length}

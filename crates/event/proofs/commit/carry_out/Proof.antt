@@ -1,11 +1,10 @@
 -- `event::commit::carry_out` meets its contract.
 use Rattle.event.proofs.Laws.{carried-refused, carried-full, carried-sent}
 use Rattle.node.proofs.Answered.{answered}
-use Prim.Native.Nat.{ℕ}
 use native.Mathlib.Omega.{arith}
 use Rattle.event.specs.Act.{Outcome, handedBack}
 use denote.Ref.{now}
-use mathlib.Core.Path.{_≡_, refl, sym, ap, _∙_}
+use mathlib.Core.Path.{sym, ap, _∙_}
 use borrow.Author.Needs.{needs}
 use Rattle.event.proofs.commit.carry_out.Statement.{statement}
 use Rattle.event.proofs.commit.carry_out.Tie as tie

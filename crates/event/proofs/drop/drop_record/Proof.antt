@@ -3,7 +3,7 @@ use Rattle.event.proofs.Laws.{acted-refused, acted-taken, sound-drop}
 use Rattle.event.specs.Act.{Outcome}
 use Rattle.protocol.specs.declared.Event.the-variants as event
 use denote.Ref.{now}
-use mathlib.Core.Path.{_≡_, refl, sym, ap, _∙_}
+use mathlib.Core.Path.{refl, sym, ap, _∙_}
 use borrow.Author.Needs.{needs}
 use Rattle.event.proofs.drop.drop_record.Statement.{statement}
 use Rattle.event.proofs.drop.drop_record.Tie as tie

@@ -3,7 +3,7 @@ use Rattle.event.proofs.Laws.{first-length, first-store, first-table, f
 use Rattle.store.proofs.Lent.{right}
 use borrow.Author.Tests.{not-true, not-false}
 use denote.Ref.{now}
-use mathlib.Core.Path.{_≡_, sym}
+use mathlib.Core.Path.{sym}
 use Rattle.event.proofs.precheck.first_verdict.Statement.{statement}
 use Rattle.event.proofs.precheck.first_verdict.Tie as tie
 

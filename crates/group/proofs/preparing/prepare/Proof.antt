@@ -2,7 +2,7 @@
 use Rattle.group.proofs.SetUpLaws.{size-wrong, nodes-wrong, length-wrong, all-right}
 use borrow.Author.Tests.{not-true, not-false}
 use denote.Ref.{now}
-use mathlib.Core.Path.{_≡_, refl, sym, ap, _∙_}
+use mathlib.Core.Path.{sym, _∙_}
 use borrow.Author.Needs.{needs}
 use Rattle.group.proofs.preparing.prepare.Statement.{statement}
 use Rattle.group.proofs.preparing.prepare.Tie as tie

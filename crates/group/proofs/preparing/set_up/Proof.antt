@@ -11,7 +11,7 @@ use mir.Syntax.{named, w64, tyInt}
 use mir.Val.{Val, vint}
 use sound.Laws.{∗emp}
 use base.Logic.{SProp, ent, sep, emp, via, fst∗, id⊢}
-use base.Fml.{Lft, GName, Share, Fml, ftrue, fat, flft}
+use base.Fml.{Lft, GName, Share, ftrue, fat, flft}
 use prog.Memory.{Memory}
 use prog.Routine.{Routine}
 use prog.Wp.{Heap, Calls, Loops, WpFn, Tables}
@@ -22,7 +22,7 @@ use types.Kit.{Given, ‵, raw, some, later, _⊛_, ⋆, _$_, _∵_, !, qed, by,
 use types.Part.{agg, whole, sub, look-in}
 use types.Run.{look, init, forget, stop, hop, fld, from, load, addr, of-opd, and-then, no-more, assigns, land, returns, enter, alloc1, alloc0, params1, pass1, pass0, free1, free0}
 use sound.WpLaws.{FmC, fmOf, WpFn-mono}
-use denote.RattleType.{RattleType, owns}
+use denote.RattleType.{owns}
 use denote.Laws.{Is, shows}
 use denote.Plain.{Nothing, nothing-lawful, uint-makes, uint-vals, uint-tells}
 use denote.Builtin.{u8, u64, usize}

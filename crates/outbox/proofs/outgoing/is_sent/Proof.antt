@@ -1,6 +1,5 @@
 -- `outbox::outgoing::is_sent` meets its contract.
 use Prim.Native.Nat.{_<_, _≤_}
-use mathlib.Core.Path.{_≡_}
 use native.Mathlib.Omega.{arith}
 use borrow.Author.Tests.{lt-ltb, le-ltb}
 use Rattle.protocol.specs.Outgoing.{outgoingTo}

@@ -3,11 +3,10 @@ use Rattle.outbox.proofs.Places.{items-turn, items-end}
 use Rattle.protocol.specs.Node.{rowItems}
 use Rattle.node.proofs.Array.{length-mapped}
 use Rattle.item.specs.Maxima.{maxNodes}
-use lib.Seq.{take-all}
 use lib.ListN.{length, take, length-set}
 use native.Mathlib.Omega.{arith}
-use mathlib.Core.Path.{_≡_, refl, sym, ap, _∙_}
-use Prim.Native.Nat.{_≤_, _-_, _+_}
+use mathlib.Core.Path.{_≡_, refl, ap, _∙_}
+use Prim.Native.Nat.{_≤_, _-_}
 use borrow.Author.Needs.{needs}
 use Rattle.outbox.proofs.outgoing.row_items.Statement.{statement}
 use Rattle.outbox.proofs.outgoing.row_items.Tie as tie

@@ -1,6 +1,5 @@
 -- `record_read::endpoints::read` meets its contract: the message of a readable record has the record's own fields.
 use mathlib.Core.Path.{sym}
-use denote.Ref.{now}
 use Rattle.item.specs.Tests.{refuted, granted}
 use borrow.Author.Needs.{needs}
 use Rattle.record_read.proofs.endpoints.read.Statement.{statement}

@@ -2,7 +2,6 @@
 use native.Mathlib.Omega.{arith}
 use borrow.Author.Tests.{eq-eqb, ne-eqb}
 use Rattle.record_read.specs.Readable.{rowsOfKind}
-use borrow.Author.Needs.{needs}
 use Rattle.record_read.proofs.validity.rows_of_kind.Statement.{statement}
 use Rattle.record_read.proofs.validity.rows_of_kind.Tie as tie
 

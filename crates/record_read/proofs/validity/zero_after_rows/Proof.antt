@@ -3,7 +3,7 @@ use Prim.Native.Nat.{ℕ, _+_, _*_}
 use mathlib.Core.Path.{ap, _∙_}
 use borrow.Author.Tests.{eq-eqb, ne-eqb}
 use denote.Ref.{now}
-use lib.ListN.{length, drop}
+use lib.ListN.{drop}
 use Rattle.endian.specs.Zero.{allZero}
 use Rattle.record.specs.Layout.{recordSize, rowsAt, rowSize}
 use Rattle.record_read.specs.Readable.{zeroAfterKind}

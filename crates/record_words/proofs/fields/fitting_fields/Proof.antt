@@ -3,7 +3,6 @@ use native.Mathlib.Omega.{arith}
 use mathlib.Core.Path.{refl}
 use Rattle.record_words.specs.Numbers.{fieldsFrom}
 use Rattle.record_words.proofs.NumberLaws.{fit-is}
-use borrow.Author.Needs.{needs}
 use Rattle.record_words.proofs.fields.fitting_fields.Statement.{statement}
 use Rattle.record_words.proofs.fields.fitting_fields.Tie as tie
 

@@ -3,8 +3,8 @@ use Rattle.store.proofs.Lent.{head-number}
 use Rattle.store.specs.Head.{firstFree}
 use denote.Ref.{now}
 use native.Mathlib.Omega.{arith}
-use mathlib.Core.Path.{_≡_, refl, sym, ap, _∙_}
-use Prim.Native.Nat.{ℕ, _+_, _-_, _*_, _≤_, _<_}
+use mathlib.Core.Path.{_∙_}
+use Prim.Native.Nat.{_-_}
 use borrow.Author.Needs.{needs}
 use Rattle.store_access.proofs.head.first_free.Statement.{statement}
 use Rattle.store_access.proofs.head.first_free.Tie as tie

@@ -3,8 +3,8 @@ use Rattle.store.proofs.Lent.{head-number, head-none}
 use Rattle.store.specs.Head.{firstOf, inboxAt}
 use denote.Ref.{now}
 use native.Mathlib.Omega.{arith}
-use mathlib.Core.Path.{_≡_, refl, sym, ap, _∙_}
-use Prim.Native.Nat.{ℕ, _+_, _-_, _*_, _≤_, _<_}
+use mathlib.Core.Path.{sym, _∙_}
+use Prim.Native.Nat.{_+_, _-_, _*_}
 use borrow.Author.Needs.{needs}
 use Rattle.store_access.proofs.head.first_of.Statement.{statement}
 use Rattle.store_access.proofs.head.first_of.Tie as tie

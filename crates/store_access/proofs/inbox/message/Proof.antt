@@ -5,9 +5,7 @@ use Rattle.store.specs.Sound.{messageAt, messageIn}
 use Rattle.store.specs.Records.{rightLength}
 use lib.ListN.{length}
 use denote.Ref.{now}
-use native.Mathlib.Omega.{arith}
-use mathlib.Core.Path.{_≡_, refl, sym, ap, _∙_}
-use Prim.Native.Nat.{ℕ, _+_, _-_, _*_, _≤_, _<_}
+use Prim.Native.Nat.{_-_}
 use borrow.Author.Needs.{needs}
 use Rattle.store_access.proofs.inbox.message.Statement.{statement}
 use Rattle.store_access.proofs.inbox.message.Tie as tie

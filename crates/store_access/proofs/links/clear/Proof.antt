@@ -1,7 +1,7 @@
 -- `store_access::links::clear` meets its contract: nothing past the end, else the part lent comes back as zeros.
 use Rattle.record.specs.Record.{noRecord}
 use native.Mathlib.Omega.{arith}
-use mathlib.Core.Path.{_≡_, sym, ap, _∙_}
+use mathlib.Core.Path.{sym, ap, _∙_}
 use Prim.Native.Nat.{_+_, _-_, _*_, _≤_}
 use lib.ListN.{length}
 use borrow.Rule.Slice.PartMut.{putMid}

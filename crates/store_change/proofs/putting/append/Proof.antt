@@ -1,10 +1,8 @@
 -- `store_change::putting::append` meets its contract: an empty inbox gets its first record, else the last record its next.
-use Prim.Native.Nat.{ℕ, _+_, _-_, _*_, _%_, _≤_, _<_}
-use mathlib.Core.Path.{_≡_, refl, sym, ap, _∙_}
-use native.Mathlib.Omega.{arith}
+use Prim.Native.Nat.{ℕ, _-_}
+use mathlib.Core.Path.{sym, ap, _∙_}
 use denote.Ref.{now}
 use Rattle.store.specs.Records.{recordsOf, recordCount}
-use mathlib.Core.List.{List}
 use borrow.Author.Tests.{eq-eqb, ne-eqb}
 use Rattle.store.proofs.Joined.{records-count}
 use Rattle.store.specs.Head.{firstOf}

@@ -1,9 +1,8 @@
 -- `store_change::putting::put` meets its contract: bytes of another length stay as they are, else the message is taken and appended,
 -- unless no record is free.
-use Prim.Native.Nat.{ℕ, _+_, _-_, _*_, _%_, _≤_, _<_}
-use mathlib.Core.Path.{_≡_, refl, sym, ap, _∙_}
+use Prim.Native.Nat.{ℕ, _-_}
+use mathlib.Core.Path.{sym, ap, _∙_}
 use mathlib.Core.List.{List}
-use native.Mathlib.Omega.{arith}
 use denote.Ref.{now}
 use Rattle.store.specs.Records.{recordsOf}
 use borrow.Author.Tests.{eq-eqb, ne-eqb}

@@ -1,10 +1,8 @@
 -- `store_change::putting::take_free` meets its contract: the free chain goes on behind its first record, and that is written.
-use Prim.Native.Nat.{ℕ, _+_, _-_, _*_, _%_, _≤_, _<_}
-use mathlib.Core.Path.{_≡_, refl, sym, ap, _∙_}
-use native.Mathlib.Omega.{arith}
+use Prim.Native.Nat.{_-_}
+use mathlib.Core.Path.{ap, _∙_}
 use denote.Ref.{now}
 use Rattle.store.specs.Records.{recordsOf}
-use mathlib.Core.List.{List}
 use lib.ListN.{set}
 use Rattle.record.specs.Record.{recordBytes}
 use Rattle.store.specs.Head.{withFirstFree}

@@ -1,9 +1,7 @@
 -- `store_change::removing::drop_message` meets its contract: bytes of another length stay as they are, else the change of the records is one of the bytes.
-use Prim.Native.Nat.{ℕ, _+_, _-_, _*_, _%_, _≤_, _<_}
-use mathlib.Core.Path.{_≡_, refl, sym, ap, _∙_}
-use native.Mathlib.Omega.{arith}
+use Prim.Native.Nat.{ℕ, _-_}
+use mathlib.Core.Path.{ap, _∙_}
 use denote.Ref.{now}
-use Rattle.store.specs.Records.{recordsOf}
 use mathlib.Core.List.{List}
 use Rattle.store.proofs.Lent.{changed, unchanged}
 use Rattle.store.specs.Change.{freed, dropIn}

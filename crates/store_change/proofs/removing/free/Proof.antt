@@ -1,7 +1,6 @@
 -- `store_change::removing::free` meets its contract: cleared, linked before the free records, and made the first of them.
-use Prim.Native.Nat.{ℕ, _+_, _-_, _*_, _%_, _≤_, _<_}
-use mathlib.Core.Path.{_≡_, refl, sym, ap, _∙_}
-use native.Mathlib.Omega.{arith}
+use Prim.Native.Nat.{ℕ, _-_}
+use mathlib.Core.Path.{ap, _∙_}
 use denote.Ref.{now}
 use Rattle.store.specs.Records.{recordsOf}
 use mathlib.Core.List.{List}

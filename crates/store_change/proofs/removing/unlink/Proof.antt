@@ -1,7 +1,6 @@
 -- `store_change::removing::unlink` meets its contract: the inbox begins with the next of its first record, or the record before gets it.
-use Prim.Native.Nat.{ℕ, _+_, _-_, _*_, _%_, _≤_, _<_}
-use mathlib.Core.Path.{_≡_, refl, sym, ap, _∙_}
-use native.Mathlib.Omega.{arith}
+use Prim.Native.Nat.{_-_}
+use mathlib.Core.Path.{sym, ap, _∙_}
 use denote.Ref.{now}
 use Rattle.store.specs.Records.{recordsOf, recordCount}
 use borrow.Author.Tests.{eq-eqb, ne-eqb}

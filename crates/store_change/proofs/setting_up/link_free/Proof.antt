@@ -1,8 +1,7 @@
 -- `store_change::setting_up::link_free` meets its contract. The invariant: the records before i are linked, the others cleared.
-use Prim.Native.Nat.{ℕ, _+_, _-_, _*_, _%_, _≤_, _<_}
-use mathlib.Core.Path.{_≡_, refl, sym, ap, _∙_}
+use Prim.Native.Nat.{ℕ, _+_, _-_, _*_, _≤_}
+use mathlib.Core.Path.{_≡_, ap, _∙_}
 use native.Mathlib.Omega.{arith}
-use denote.Ref.{now}
 use Rattle.store.specs.Records.{recordsOf, recordCount}
 use mathlib.Core.List.{List}
 use lib.ListN.{length}

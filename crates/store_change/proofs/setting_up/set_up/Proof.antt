@@ -1,7 +1,6 @@
 -- `store_change::setting_up::set_up` meets its contract: bytes of another length stay as they are, else the change of the records is one of the bytes.
-use Prim.Native.Nat.{ℕ, _+_, _-_, _*_, _%_, _≤_, _<_}
-use mathlib.Core.Path.{_≡_, refl, sym, ap, _∙_}
-use native.Mathlib.Omega.{arith}
+use Prim.Native.Nat.{ℕ, _-_, _%_}
+use mathlib.Core.Path.{ap, _∙_}
 use denote.Ref.{now}
 use Rattle.store.specs.Records.{recordsOf, recordCount, recordIn}
 use mathlib.Core.List.{List}

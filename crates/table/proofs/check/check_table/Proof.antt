@@ -10,9 +10,9 @@ use prog.Routine.{Routine}
 use ghost.Atoms.{Atoms, sem}
 use contract.Monad.{Fun, fact}
 use contract.Running.{givenOf, tables, tablesOf}
-use types.Part.{agg, whole, sub, look-in}
+use types.Part.{whole, sub, look-in}
 use sound.WpLaws.{FmC, fmOf, WpFn-mono}
-use denote.RattleType.{RattleType, owns}
+use denote.RattleType.{owns}
 use denote.Laws.{Is, shows}
 use denote.Ref.{RefT}
 use denote.Signature.{plain}
@@ -30,7 +30,7 @@ use Rattle.protocol.proofs.Node.Laws as T′
 use mathlib.Core.Path.{_≡_, refl, sym, _∙_, ap}
 use mathlib.Core.Bool.{Bool, true, _&&_}
 use mathlib.Core.WellFounded.{WellFounded, InvImage·wf}
-use Prim.Native.Nat.{ℕ, suc, _+_, _-_, _≤_, _<_, _^_, zero-le}
+use Prim.Native.Nat.{ℕ, _+_, _-_, _≤_, _<_, _^_, zero-le}
 use native.Mathlib.Nat.{le-antisymm, lt-of-le-of-lt}
 use native.Mathlib.Numerals.{add-one, add-one-le, add-one-dec}
 use lib.WfN.{Nat·lt-wfRel}

@@ -12,11 +12,11 @@ use contract.Monad.{Fun, fact}
 use contract.Running.{givenOf, tables, tablesOf}
 use types.Part.{agg, whole, sub, look-in}
 use sound.WpLaws.{FmC, fmOf, WpFn-mono}
-use denote.RattleType.{RattleType, owns}
+use denote.RattleType.{owns}
 use denote.Laws.{Is, shows}
 use denote.Ref.{RefT}
 use denote.Signature.{plain}
-use denote.Steps.{only, owned, peeks, heard, nothing}
+use denote.Steps.{owned, peeks, heard, nothing}
 use denote.Struct.Laws as LL
 use denote.Triple.Entry.{Vals, onEntry}
 use denote.Triple.Spec.{Meets, tripleOf}
@@ -37,7 +37,7 @@ use lib.Dec.{T, ltb, ltb→lt, nltb→le, lit<}
 use lib.ListN.{length, set, length-set}
 use mir.Syntax.{Ty, named, w64}
 use mir.Val.{Val, vunit, vint}
-use base.Fml.{Lft, GName, Share, Fml, ftrue, fat, froom, fdies, flft}
+use base.Fml.{Lft, GName, Share, ftrue, fat, froom, fdies, flft}
 use prog.Wp.{Heap, Out, Env, afterSeq, afterBlock, afterTurn, Calls, Loops, Wp, atReturn, WpFn, Tables}
 use types.Kit.{Given, Item, ‵, raw, runs, anyQ, atRet, Sq, some, later, _⊛_, ⋆, _$_, _∵_, !, qed, by, move, keep, use1, use2, use3, split, join, pick, rewrite, fsplit, fjoin, feqL, feqI, suffices, frame, await, done}
 use types.Run.{look, store, init, forget, stop, hop, fld, from, load, lit, unit-lit, addr, of-opd, bin, and-then, no-more, assigns, assigns-last, land, first, skips, jumps, blocks, branches, returns, exec, again, loops, Below, enter, alloc1, alloc0, params1, pass1, pass0, free1, free0}
