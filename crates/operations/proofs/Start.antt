@@ -1,5 +1,5 @@
 -- An accepted set-up: table and store represent a network in which nothing was sent.
-use Prim.Native.Nat.{ℕ}
+use Prim.Native.Nat.{ℕ, _-_}
 use native.Mathlib.Omega.{arith}
 use mathlib.Core.Path.{_≡_, refl, sym, ap, subst, _∙_}
 use mathlib.Core.Bool.{true, _&&_}
@@ -58,7 +58,7 @@ first-represents n =
     record {
       store-of = record {
         right = joined-right rs (length-empty recordCount n) (empty-sized recordCount n);
-        size = ap groupSize e ∙ empty-size 239 n;
+        size = ap groupSize e ∙ empty-size (recordCount - 1) n;
       };
       fit = each-fresh NodeFits n (λ k. fresh-fits k n) no-node-fits;
       all-sent = subst (AllSent n []) (sym e) (λ r d c h. absurd (no-fault c _ h (empty-reads recordCount n r d n)));
