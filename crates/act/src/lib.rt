@@ -1,6 +1,5 @@
-// An event at one node by value, with the lent store: everything that decides. Nothing here touches the table; whoever
-// has it reads the node first and puts it back afterwards. Everything is proved, no function has a `requires`, and each
-// gives what one definition of the crate `event` says.
+// An event at one node by value, with the lent store: everything that decides. Nothing here touches the table: whoever
+// has it reads the node first and puts it back afterwards.
 use delivering::deliver_record;
 use engine::crash;
 use engine::retry;

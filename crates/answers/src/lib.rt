@@ -1,5 +1,4 @@
-// The drill's output lines, printed into a lent slice. Everything is proved, no public function has a `requires`, and
-// each gives what one definition of specs/ says.
+// The drill's output lines, printed into a lent slice.
 mod refusals;
 
 ghost use Prim.Native.Nat.{_+_, _≤_};

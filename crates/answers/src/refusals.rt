@@ -1,4 +1,4 @@
-// Document 01's number of a refusal, by one definition of the crate `protocol`. It is proved, and has no `requires`.
+// The number of a refusal, as document 01 lists it and the drill prints it.
 use protocol::Refusal;
 ghost use mathlib.Core.Path.{_≡_};
 ghost use Rattle.protocol.specs.Answer.{refusalNumber};

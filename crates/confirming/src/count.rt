@@ -1,6 +1,5 @@
-// Delivery of Confirmed, decided by what is seen of the node: one that is Confirming counts it. The sender's incarnation is
-// the envelope's. Everything is proved, no public function has a `requires`, and a decision is, for every node that is
-// seen so, the step that one definition of the crate `protocol` says.
+// Delivery of Confirmed, decided by the view of its sender: a node that is Confirming counts it. The sender's incarnation is
+// the envelope's.
 use crate::settle::confirmed_counted;
 use item::Attempt;
 use item::Incarnation;

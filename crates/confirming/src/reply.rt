@@ -1,6 +1,5 @@
-// Delivery of Confirm, decided by what is seen of the node: one that is Up answers Confirmed if its row is as the message
-// says. The sender's incarnation is the envelope's. Everything is proved, no public function has a `requires`, and a
-// decision is, for every node that is seen so, the step that one definition of the crate `protocol` says.
+// Delivery of Confirm, decided by the view of its sender: a node that is Up answers Confirmed if its row is as the message
+// says. The sender's incarnation is the envelope's.
 use item::Attempt;
 use item::Incarnation;
 use item::Item;

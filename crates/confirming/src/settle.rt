@@ -1,6 +1,5 @@
 // What a node that counts one more Confirmed does: at f of them its write has ended, and is settled, or accepted where the
-// node was Returning. Everything is proved, no public function has a `requires`, and a decision is, for every node that is
-// seen so, the step that one definition of the crate `protocol` says.
+// node was Returning.
 use item::Incarnation;
 use item::Item;
 use node::half;

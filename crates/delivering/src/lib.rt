@@ -1,5 +1,4 @@
-// Delivery of the message in a record. Everything is proved, no function has a `requires`, and each gives what one
-// definition of the crate `event` says.
+// Delivery of the message in a record of the store.
 use engine::Decided;
 use engine::decide;
 use engine::on_table;

@@ -1,5 +1,5 @@
 // The drill (document 01, Drill program): reads a script from standard input, and prints the answer of each line to
-// standard output. What the lines mean and what they print is decided in crates `progress`, `session` and `feeding`; here are the blocks.
+// standard output. `drill_state` and `drill_run` say what the lines mean and print; here are the blocks.
 use drill_run::STORE_ROOM;
 use drill_run::feed;
 use drill_state::Progress;

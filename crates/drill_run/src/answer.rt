@@ -1,5 +1,4 @@
 // One line of a drill: what it asks is carried out over lent nodes and a lent store, and answered. It decides nothing.
-// Everything is proved, and it has no `requires`.
 use drill_state::Position;
 use drill_state::next_line;
 use on_first_nodes::operate_first;

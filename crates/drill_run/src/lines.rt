@@ -1,5 +1,5 @@
 // What the lines of a piece of a drill's script ask of the group, carried out one by one over lent nodes and a lent store.
-// It decides nothing. Everything is proved, and it has no `requires`.
+// It decides nothing.
 use crate::answer::answer_line;
 use drill_state::Position;
 use protocol::Node;

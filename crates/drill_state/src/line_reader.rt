@@ -1,5 +1,5 @@
 // A drill's script, read up to the next line that asks something of the group, and the answers printed. It sees neither
-// nodes nor store. Everything is proved, and no public function has a `requires`.
+// nodes nor store.
 use crate::Progress;
 use answers::LINE_ROOM;
 use answers::Reply;

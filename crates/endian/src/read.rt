@@ -1,6 +1,4 @@
-// Little-endian numbers of 2, 4 and 8 bytes read from a slice. Everything is proved, no public function has a `requires`,
-// and each gives what one definition of the crate `endian` says. A number that does not lie within the slice reads as 0,
-// whatever place is handed in.
+// Little-endian numbers of 2, 4 and 8 bytes read from a slice. A number that does not lie within the slice reads as 0.
 ghost use mathlib.Core.Path.{_≡_};
 ghost use Prim.Native.Nat.{_+_};
 ghost use lib.Dec.{leb};

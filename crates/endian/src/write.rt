@@ -1,6 +1,4 @@
-// Numbers written into bytes, little-endian, at widths 2, 4 and 8. Everything is proved, no public function has a `requires`,
-// and each gives what one definition of the crate `endian` says. A number that does not lie within the slice is not
-// written.
+// Little-endian numbers of 2, 4 and 8 bytes written into a slice. A number that does not lie within it is not written.
 use crate::read::lies_within;
 ghost use mathlib.Core.Path.{_≡_};
 ghost use Rattle.endian.specs.Number.{withNumber};

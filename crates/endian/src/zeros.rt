@@ -1,10 +1,9 @@
-// Zero bytes: a slice tested for them and filled with them. Everything is proved, no public function has a `requires`, and
-// each gives what one definition of the crate `endian` says.
+// Zero bytes: a slice tested for them and filled with them.
 ghost use mathlib.Core.Path.{_≡_};
 ghost use lib.ListN.{length};
 ghost use Rattle.endian.specs.Zero.{zeros, allZero};
 
-// Whether every byte is 0. All are looked at, by one loop without a way out, which the compiler widens.
+// Whether every byte is 0. All are compared, by one branch-free loop, which the compiler vectorises.
 pub fn is_zero(s: &[u8]) -> bool
     ensures { λ r. ⌜ r ≡ allZero (now (s .entry)) ⌝ }
 {

@@ -1,6 +1,5 @@
 // The engine over one node by value: every event, and a message delivered by its kind. A message without rows is decided
-// by what is seen of the node, so that a decision moves no rows; a Table by the whole node. Everything is proved, no public
-// function has a `requires`, and each gives what one definition of protocol's specs/ says.
+// by the view of its sender, so that a decision moves no rows; a Table by the whole node.
 use confirming::on_confirm;
 use confirming::on_confirmed;
 use fetching::on_fetch;
@@ -31,14 +30,14 @@ ghost use Rattle.protocol.specs.declared.Node.{Node};
 ghost use Rattle.sender_view.specs.View.{Sees};
 ghost use Rattle.engine.specs.Decided.{decidedStep};
 
-// What is decided of a message: a decision by what is seen of the node, or that it is a Table with this other incarnation,
+// What is decided of a message: a decision by the view of its sender, or that it is a Table with this other incarnation,
 // which the whole node decides.
 pub enum Decided {
     Seen(Decision),
     Table(Incarnation),
 }
 
-// What a node that is seen so makes of a message.
+// What every node with this view of the sender makes of a message.
 pub fn decide(view: View, incarnation: Incarnation, message: Message) -> Decided
     ensures { λ r. ⌜ ((node : Node) (sender : ℕ) (items : List Item) → Sees view node sender → decidedStep r node sender incarnation items ≡ onMessage message node sender incarnation items) ⌝ }
 {

@@ -1,5 +1,4 @@
-// A decision carried out: what it sends goes into the store. Everything is proved, no public function has a `requires`,
-// and each gives what one definition of the crate `event` says.
+// A decision carried out: refused where too few records are free, or what it sends goes into the store.
 use crate::Acted;
 use crate::refused;
 use outbox::count_sent;

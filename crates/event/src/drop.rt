@@ -1,5 +1,4 @@
-// Drop of the message in a record. No node is looked at. Everything is proved, no function has a `requires`, and each gives
-// what one definition of the crate `event` says.
+// Drop of the message in a record. No node is read.
 use crate::Seen;
 use crate::precheck::first_verdict;
 use message::Reading;

@@ -1,5 +1,4 @@
-// What is seen of store and event before the table is read. Everything is proved, no public function has a `requires`,
-// and each gives what one definition of the crate `event` says.
+// What is found in store and event before the table is read.
 use crate::Dropping;
 use crate::Seen;
 use message::Reading;

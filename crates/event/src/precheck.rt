@@ -1,5 +1,4 @@
-// What refuses every event before its node or its record is looked at. Everything is proved, the function has no `requires`,
-// and it gives what one definition of the crate `event` says.
+// What refuses every event before its node or its record is read: refusals 2 and 3.
 use crate::Seen;
 use protocol::Refusal;
 use protocol::Verdict;

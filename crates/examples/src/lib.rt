@@ -1,5 +1,5 @@
-// Examples of document 01 shown from the definitions of the protocol: the ten lettered ones ("Checked examples"), one list
-// and one sentence, the sixteen lines of its drill program over table and store, and the same calls on a network. Specs and proofs only.
+// Examples of document 01 shown from the definitions: the ten lettered ones, one list and one sentence, the sixteen lines of
+// its drill program over table and store, and the same calls on a network. There is no code.
 ghost use Rattle.examples.specs.Lettered.{LetteredExamples};
 ghost use Rattle.examples.specs.NetworkReturn.{ReturnReached};
 ghost use Rattle.examples.specs.Sixteen.{SixteenLines};

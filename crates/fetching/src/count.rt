@@ -1,5 +1,4 @@
-// Delivery of Table to one node by value: a node that is Fetching counts it. Everything is proved, no public function has a
-// `requires`, and each gives what one definition of protocol's specs/Fetching says.
+// Delivery of Table to one node by value: a node that is Fetching counts it.
 use crate::merge::merge_rows;
 use crate::recover::table_counted;
 use item::Incarnation;

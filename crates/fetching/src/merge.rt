@@ -1,5 +1,4 @@
-// The merge of fetched tables: what a node that is Fetching keeps of the tables it counts, row by row. Everything is
-// proved, no public function has a `requires`, and each gives what one definition of protocol's specs/Merge says.
+// The merge of fetched tables: what a node that is Fetching keeps of the tables it counts, row by row.
 use item::Attempt;
 use item::Incarnation;
 use item::Item;

@@ -1,6 +1,4 @@
-// What a node that has counted one more table does: at f + 1 of them it stops, or it returns and writes its own item
-// back. Everything is proved, no public function has a `requires`, and each gives what one definition of protocol's
-// specs/Fetching says.
+// What a node that has counted one more table does: at f + 1 of them it stops, or it returns and writes its own item back.
 use crate::merge::lowest_marked;
 use item::Attempt;
 use node::count_peers;

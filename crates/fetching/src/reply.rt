@@ -1,6 +1,4 @@
-// Delivery of Fetch, decided by what is seen of the node: one that is Up answers with its rows in a Table. Everything is
-// proved, no public function has a `requires`, and a decision is, for every node that is seen so, the step that one
-// definition of protocol's specs/Fetching says.
+// Delivery of Fetch, decided by the view of its sender: a node that is Up answers with its rows in a Table.
 use item::Incarnation;
 use message::Message;
 use phase::is_up;

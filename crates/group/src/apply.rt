@@ -1,5 +1,5 @@
 // An event applied to the lent table and the lent store: a Drop to the store alone, so that no node is copied for it, and any
-// other event at its place. It decides nothing else. Everything is proved, and it has no `requires`.
+// other event at its place. It decides nothing else.
 use crate::place;
 use act::Seen;
 use protocol::Answer;

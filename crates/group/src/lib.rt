@@ -1,6 +1,4 @@
-// The group: its seven operations over a lent table and a lent message store, of any length and content. Everything is
-// proved, no function has a `requires`, and each gives the answer and leaves the table and the store that one definition
-// of the protocol says.
+// The group: its seven operations over a lent table and a lent message store, of any length and content.
 mod apply;
 mod place;
 mod preparing;

@@ -1,5 +1,4 @@
-// An event at its place in the lent table: the one function that has table and store and changes both. It decides
-// nothing. Everything is proved, and it has no `requires`.
+// An event at its place in the lent table: the one function that has table and store and changes both. It decides nothing.
 use act::Seen;
 use protocol::Answer;
 use protocol::Event;

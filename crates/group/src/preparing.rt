@@ -1,5 +1,4 @@
-// Set-up of a group over a lent table and a lent message store, of any length and content. Everything is proved, no
-// function has a `requires`, and the answer, the table and the store are those that one definition of the protocol says.
+// Set-up of a group over a lent table and a lent message store, of any length and content.
 use protocol::Answer;
 use protocol::Node;
 use protocol::Refusal;

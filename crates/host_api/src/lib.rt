@@ -1,6 +1,5 @@
-// What a host in C or Rust calls: a small boundary of numbers and byte slices over the crates below. A slice is handed
-// over as a pointer and a length. Everything is proved, no function has a `requires`, and each gives what the
-// definitions of specs/ say, whatever is handed in.
+// What a host in C or Rust calls: a small boundary of numbers and byte slices over the crates below. A slice is handed over
+// as a pointer and a length.
 
 ghost use mathlib.Core.Path.{_≡_};
 ghost use Rattle.record_words.specs.Records.{bytesWritten, mayRead, mayWrite, numbersRead};

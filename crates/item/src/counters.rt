@@ -1,5 +1,4 @@
-// The three counters, and every comparison of them that the layers above use: nobody above compares their numbers by
-// hand. Everything is proved, no public function has a `requires`, and each gives what one definition of specs/ says.
+// The three counters, and every comparison of them that the layers above use: nobody above compares their numbers by hand.
 ghost use mathlib.Core.Path.{_≡_};
 ghost use Rattle.item.specs.Counter.{indexBelow, indexAtLargest, nextIndex, sameIncarnation, incarnationAtLargest, nextIncarnation, sameAttempt, attemptAtLargest, nextAttempt, earlier};
 

@@ -1,6 +1,5 @@
-// Tags, items and rows, with the counters of `item::counters`, and every comparison of them that the layers above
-// use: nobody above compares their fields by hand. Everything is proved, no public function has a `requires`, and each
-// gives what one definition of specs/ says.
+// Tags, items and rows, the counters, the sizes of groups, and every comparison of them that the layers above use: nobody
+// above compares their fields by hand.
 mod counters;
 
 pub use counters::Attempt;

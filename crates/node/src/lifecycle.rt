@@ -1,5 +1,4 @@
-// A node as it is set up, crashes and starts. Everything is proved, no public function has a `requires`, and each gives
-// what one definition of the crate `protocol` says.
+// A node as it is set up, crashes and starts.
 use item::Attempt;
 use item::Incarnation;
 use item::Row;

@@ -1,6 +1,5 @@
-// The peers that a node by value counts or asks, and how many of them it takes. Everything is proved, no public function
-// has a `requires`, and each gives what one definition of the crate `protocol` says. A number past the last peer reads as
-// one that is neither counted nor asked.
+// The peers that a node by value counts or asks, and how many of them it takes. A number past the last peer reads as one
+// that is neither counted nor asked.
 use protocol::Node;
 use protocol::Peer;
 ghost use mathlib.Core.Path.{_≡_};

@@ -1,6 +1,5 @@
-// A node by value with some of its rows or of the peers counted replaced. Everything is proved, no public function has a
-// `requires`, and each gives what one definition of the crate `protocol` says. A field that a function's comment does
-// not name stays, and a number past the last row changes nothing.
+// A node by value with some of its rows or of the peers counted replaced. A field that a function's comment does not name
+// stays, and a number past the last row changes nothing.
 use item::Incarnation;
 use item::Row;
 use protocol::Node;

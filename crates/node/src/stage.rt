@@ -1,6 +1,4 @@
-// A node by value when a stage of its write begins or the write ends. Everything is proved, no public function has a
-// `requires`, and each gives what one definition of the crate `protocol` says. A field that a function's comment does
-// not name stays.
+// A node by value when a stage of its write begins or the write ends. A field that a function's comment does not name stays.
 use crate::rows::with_row;
 use item::Attempt;
 use item::Item;

@@ -1,5 +1,4 @@
-// The two requests to every other node, Store and Fetch. Everything is proved, no public function has a `requires`, and
-// each gives what one definition of the crate `protocol` says.
+// The two requests to every other node, Store and Fetch.
 use message::Message;
 use node::own_item;
 use protocol::Answer;

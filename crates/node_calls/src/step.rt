@@ -1,5 +1,4 @@
-// The two shapes of a step, a refusal and "ok". Everything is proved, no public function has a `requires`, and each gives
-// what one definition of the crate `protocol` says.
+// The two shapes of a step, a refusal and "ok".
 use protocol::Answer;
 use protocol::Node;
 use protocol::Refusal;

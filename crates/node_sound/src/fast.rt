@@ -1,8 +1,5 @@
-// Whether a node is at rest: no row marked, nobody counted, nobody asked. Most nodes are, most of the time, and a node that
-// is Up and Idle is sound only so. And whether the rows that it has no use for are zero, marks aside: of a node Up, Idle and
-// at rest nothing else is left to ask. Everything is proved, no public function has a `requires`, and each function gives
-// what one definition of specs/ says. All loops are short and without a way out: the compiler unrolls them whole, and then
-// reads the node where it stands instead of copying it.
+// Whether a node is at rest (no row marked, nobody counted or asked) and its unused rows are zero: all that is to be asked of
+// one that is Up and Idle. The loops are short and branch-free: the compiler unrolls them and copies no node.
 use item::Incarnation;
 use item::Row;
 use protocol::Node;

@@ -1,6 +1,4 @@
 // Soundness of a node's rows: rows from n on are zero, and the others hold nothing but what the node's phase uses.
-// Everything is proved, the public function has no `requires`, and each function gives what one definition of protocol's
-// specs/Sound says. Any node may be asked about.
 use item::Attempt;
 use item::Incarnation;
 use item::Row;

@@ -1,5 +1,4 @@
-// An operation of the group as a line of a drill asks for it, over nodes that are lent, of which the first ones are the
-// group's table. Everything is proved, and no public function has a `requires`.
+// An operation of the group as a line of a drill asks for it, over lent nodes of which the first ones are the group's table.
 
 use protocol::Answer;
 use protocol::Node;

@@ -1,6 +1,5 @@
-// The messages of a decision, put into a store over lent bytes by rising number. Everything is proved, the public function
-// has no `requires`, and it leaves the bytes that one definition of the crate `store` says. Bytes that are not as long as
-// a store stay as they are.
+// The messages of a decision, put into a store over lent bytes by rising number. Bytes that are not as long as a store stay
+// as they are.
 use crate::outgoing::is_sent;
 use crate::outgoing::outgoing_to;
 use crate::outgoing::row_items;

@@ -1,6 +1,5 @@
 // What a decision sends: to whom, what, how many messages, and the items that go with a Table. No array of messages is
-// built, as most decisions send one or none. Everything is proved, no public function has a `requires`, and each gives
-// what one definition of the crates `protocol` and `store` says.
+// built, as most decisions send one or none.
 use item::Attempt;
 use item::Item;
 use message::Envelope;

@@ -1,5 +1,4 @@
-// Whether a node has no write under way. Everything is proved, no public function has a `requires`, and each gives what
-// one definition of the crate `protocol` says.
+// Whether a node has no write under way.
 use protocol::Phase;
 use protocol::Stage;
 ghost use mathlib.Core.Path.{_≡_};

@@ -1,5 +1,4 @@
-// The stage of the write that a node that is Returning or Up has under way: the tests on it, and its change. Everything
-// is proved, no public function has a `requires`, and each gives what one definition of the crate `protocol` says.
+// The stage of the write that a node that is Returning or Up has under way: the tests on it, and its change.
 use protocol::Phase;
 use protocol::Stage;
 ghost use mathlib.Core.Path.{_≡_};

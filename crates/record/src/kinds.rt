@@ -1,6 +1,5 @@
-// The six kinds of message as numbers in a record, and which fields each uses: the types, the definitions and their laws, and
-// no code. A message is read from its fields in `record_read::kind`, its fields are made in `kinds_write`, and how many
-// rows it has is in `held_rows`.
+// The six kinds of message as numbers in a record, and the fields of one. A message is read from fields in `record_read`, and
+// its fields and rows are made in `record_write`.
 use item::Attempt;
 use item::Incarnation;
 use item::Item;

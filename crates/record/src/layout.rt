@@ -1,5 +1,4 @@
-// The bytes of one record: where each field stands, with the definitions and their laws, and no code. They are read in the
-// `record_read::fields` and written in `encoding`.
+// The bytes of one record: where each field stands. They are read in `record_read` and written in `record_write`.
 use item::Tag;
 
 // The bytes of a record.

@@ -1,4 +1,5 @@
-// One record of the message store: its kinds and layout, what reading and writing give, and the theorems that they undo each other.
+// One record of the message store: its kinds and layout, what reading and writing give, and the theorems that they undo each
+// other.
 pub mod kinds;
 pub mod layout;
 

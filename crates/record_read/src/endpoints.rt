@@ -1,6 +1,5 @@
-// The two ends of the message in one record, its sender and its addressee, read from the record's bytes as a slice of its
-// own. Everything is proved, the public function has no `requires`, and it gives what one definition of specs/ says. This is
-// what a pass over a store reads of every record on an inbox chain: no message is built.
+// The sender and the addressee of the message in one record, read from the record's bytes as a slice of its own. A pass over
+// a store asks this of every record on an inbox chain: no message is built.
 use crate::fields;
 use crate::validity;
 ghost use mathlib.Core.Path.{_≡_};

@@ -1,5 +1,4 @@
-// The fields and the rows of one record read from its bytes, as a slice of its own. Everything is proved, no public function
-// has a `requires`, and each gives what one definition of `record::layout` says. In a slice that is too short a field
+// The fields and the rows of one record read from its bytes, as a slice of its own. In a slice that is too short a field
 // reads as 0.
 use item::Attempt;
 use item::Incarnation;

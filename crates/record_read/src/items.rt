@@ -1,6 +1,4 @@
-// The rows of one record, read at any place of any slice. Everything is proved, the public function has no `requires`, and it
-// gives what one definition of the crate `record` says. A record that does not lie whole within the slice has zero items,
-// whatever number is handed in.
+// The rows of one record, read at any place of any slice. A record that does not lie whole within the slice has zero items.
 use crate::fields;
 use item::Item;
 use record::SIZE;

@@ -1,5 +1,4 @@
-// The message that the fields of a record say, and whether they say one. Everything is proved, no public function has a
-// `requires`, and each gives what one definition says.
+// The message that the fields of a record say, and whether they say one.
 use item::Attempt;
 use item::Incarnation;
 use item::Item;

@@ -1,6 +1,4 @@
-// The message of one record, read at any place of any slice. Everything is proved, the public function has no `requires`, and
-// it gives what one definition of the crate `record` says. A record that does not lie whole within the slice reads as
-// nothing, whatever number is handed in.
+// The message of one record, read at any place of any slice. A record that does not lie whole within the slice is a fault.
 pub mod endpoints;
 mod fields;
 mod items;

@@ -1,6 +1,5 @@
-// Whether the bytes of one record, as a slice of its own, are a message. Everything is proved, no public function has a
-// `requires`, and each gives what one definition of specs/ says. No message is built: the kind, the fields that it does not
-// use and the bytes after its rows are looked at where they stand, since a pass over a store asks this of every record.
+// Whether the bytes of one record, as a slice of its own, are a message. No message is built, since a pass over a store asks
+// this of every record on an inbox chain.
 use crate::fields;
 use crate::kind;
 use endian::zeros;

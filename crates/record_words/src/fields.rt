@@ -1,5 +1,4 @@
-// Whether numbers are a message, and its fields. Everything is proved, no public function has a `requires`, and each gives
-// what one definition of `record_words::words` says. No message is built.
+// Whether numbers are a message, and its fields. No message is built.
 use crate::words::COUNT;
 use crate::words::ROWS_FIRST;
 use item::Attempt;
@@ -84,7 +83,7 @@ pub fn fields_in(numbers: &[u64]) -> Fields
     fitting_fields(numbers)
 }
 
-// Whether every number from a place on is 0. All are looked at, by one loop without a way out, which the compiler widens.
+// Whether every number from a place on is 0. All are compared, by one branch-free loop, which the compiler vectorises.
 fn zero_from(numbers: &[u64], from: usize) -> bool
     requires { ⌜ from ≤ length (now numbers) ⌝ }
     ensures { λ r. ⌜ r ≡ allZero (drop from (now (numbers .entry))) ⌝ }

@@ -1,5 +1,4 @@
-// The numbers of a record put into a lent slice. Everything is proved, no public function has a
-// `requires`, and each gives what one definition of `record_words::words` says.
+// The numbers of a record put into a lent slice.
 use crate::words::COUNT;
 use crate::words::ROWS_FIRST;
 use record::kinds::Fields;

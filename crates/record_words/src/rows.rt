@@ -1,5 +1,4 @@
-// The rows that numbers say. Everything is proved, no public function has a
-// `requires`, and each gives what one definition of `record_words::words` says.
+// The rows that numbers say.
 use crate::words::ROWS_FIRST;
 use item::Index;
 use item::Item;

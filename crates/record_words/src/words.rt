@@ -1,7 +1,5 @@
-// One record as numbers, in the order of its layout, for hosts that hold no message of ours: next, kind, sender, addressee,
-// the sender's incarnation, the other incarnation, attempt, index, tag, and the index and tag of fifteen rows. The
-// definitions (specs/), and that numbers written as a record are read back. The code is in crates `numbers_write`,
-// `numbers_rows` and `numbers_read`.
+// One record as numbers, in the order of its layout: how many there are, what they say, and that numbers written as a record
+// are read back. The code is in modules `put`, `rows` and `fields`.
 use message::Envelope;
 ghost use Rattle.record_words.specs.ReadBack.{NumbersReadBack};
 

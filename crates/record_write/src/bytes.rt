@@ -1,5 +1,4 @@
-// One record written to its bytes, as a slice of its own. Everything is proved, the public function has no `requires`, and
-// it leaves the bytes that one definition of `record::layout` says. A slice that is too short is not written.
+// One record written to its bytes, as a slice of its own. A slice that is too short is not written.
 use item::Item;
 use record::kinds::Fields;
 use record::layout;

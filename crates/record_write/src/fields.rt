@@ -1,5 +1,4 @@
-// What a message has in each field of its record. Everything is proved, the public function has no `requires`, and it gives
-// what one definition of `record::kinds` says.
+// What a message has in each field of its record.
 use item::Attempt;
 use item::Incarnation;
 use item::Item;

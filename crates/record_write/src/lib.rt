@@ -1,6 +1,5 @@
-// The message of one record, written at any place of any slice. Everything is proved, the public function has no `requires`,
-// and it gives what one definition of the crate `record` says. A record that does not lie whole within the slice is not
-// written, whatever number is handed in.
+// The message of one record, written at any place of any slice. A record that does not lie whole within the slice is not
+// written.
 mod bytes;
 mod fields;
 mod rows;

@@ -1,5 +1,4 @@
-// The rows that a record of a message holds: how many, and which. Everything is proved, no public function has a `requires`,
-// and each gives what one definition of the crates `kinds` and `layout` says.
+// The rows that a record of a message holds: how many, and which, as the crates `message` and `record` define it.
 use item::Item;
 use message::Message;
 ghost use mathlib.Core.Path.{_≡_};

@@ -1,5 +1,4 @@
-// A drill's whole script, run at once over a store of its own. Everything is proved, the public function has no `requires`,
-// and what it prints is stated by specs/Script.
+// A drill's whole script, run at once over a store of its own.
 
 use answers::LINE_ROOM;
 use drill_run::STORE_ROOM;

@@ -1,5 +1,4 @@
-// A line of the drill's script, gathered from bytes that come one by one, and read. Everything is proved, no public
-// function has a `requires`, and each gives what one definition of specs/ says.
+// A line of the drill's script, gathered from bytes that come one by one, and read.
 use crate::Line;
 use crate::read_line;
 ghost use mathlib.Core.Path.{_≡_};

@@ -1,5 +1,4 @@
-// Decimal numbers of at most 64 bits, as text: read from a slice, and written into one. Everything is proved, no
-// public function has a `requires`, and each gives what one definition of specs/ says.
+// Decimal numbers of at most 64 bits, as text: read from a slice, and written into one.
 ghost use Prim.Native.Nat.{_+_, _<_, _≤_};
 ghost use mathlib.Core.Path.{_≡_};
 ghost use mathlib.Core.List.{[], _∷_};

@@ -1,5 +1,4 @@
-// The drill's script: its input lines read, and what a line asks of the group. Everything is proved, no public function has a `requires`, and each gives what
-// one definition of specs/ says.
+// The drill's script: its input lines read, and what a line asks of the group.
 mod buffer;
 mod decimal;
 

@@ -1,5 +1,4 @@
-// What a node makes of a message without rows: the answer, what changes of the node, and what it sends. Everything is
-// proved, no public function has a `requires`, and each gives what one definition of specs/ says.
+// What a node makes of a message without rows: the answer, what changes of the node, and what it sends.
 use item::Incarnation;
 use item::Row;
 use node::confirming_begun;

@@ -1,6 +1,5 @@
-// What the delivery of a message without rows looks at of its node: a few fields by value in place of the whole node, so
-// that a decision moves no rows. Everything is proved, no public function has a `requires`, and each gives what one
-// definition says: of specs/, or of the crate `protocol` for every node that is seen so.
+// What the delivery of a message without rows reads of its node: a few fields by value in place of the whole node, so that a
+// decision moves no rows.
 use item::Attempt;
 use item::Incarnation;
 use item::Item;
@@ -51,7 +50,7 @@ fn count_with(peers: [Peer; Node::MAX_ROWS], sender: usize) -> usize
     count_peers(counted)
 }
 
-// What the node is to this sender. Rows and peers are read here and not by `node::row_of` and `node::peers::peer_of`, which take
+// What the node is to this sender. Rows and peers are read here and not by `node::row_of` and `node::peer_of`, which take
 // the whole node or a list by value: the compiler would copy it for each of them. Past the last row they read as there.
 pub fn view_of(node: Node, sender: usize) -> View
     ensures { λ r. ⌜ r ≡ viewOf node sender ⌝ }

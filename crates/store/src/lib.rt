@@ -1,5 +1,5 @@
-// The message store over lent bytes: its definitions and their laws, and the types that speak of it. Its head is the crate
-// `head`, the message in a record `inbox`, soundness `walk` and `survey`, a change `putting`, `dropping` and `setup`.
+// The message store over lent bytes: its sizes, and the types that its definitions in specs/ speak of. The code is in
+// `store_access`, `store_check` and `store_change`, the laws of its chains are in `store_laws`.
 pub mod chain;
 
 // The records of a store, the head included.

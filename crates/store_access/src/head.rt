@@ -1,6 +1,5 @@
-// The head of a store: record 0. Its fields are read and changed only here. A head that does not lie whole within the
-// slice is not changed. Everything is proved, no public function has a `requires`, and each gives what one definition of
-// the crate `store` says.
+// The head of a store: record 0. Its fields are read and changed only here. A head that does not lie whole within the slice
+// is not changed.
 ghost use mathlib.Core.Path.{_≡_};
 ghost use Prim.Native.Nat.{_%_};
 ghost use lib.ListN.{set};
@@ -56,7 +55,7 @@ pub fn first_of(s: &[u8], k: usize) -> usize
     endian::read_u16(s, INBOXES_AT + k * INBOX_SIZE) as usize
 }
 
-// `i` becomes the first free record.
+// `i` modulo 65,536 becomes the first free record.
 pub fn set_first_free(s: &mut [u8], i: usize)
     ensures { λ _. ⌜ now (s .exit) ≡ withRecord (now (s .entry)) 0 (withNumber 2 (recordOf (now (s .entry)) 0) freeAt i) ⌝ }
 {
@@ -66,7 +65,7 @@ pub fn set_first_free(s: &mut [u8], i: usize)
     endian::write_u16(&mut s[0..record::SIZE], FREE_AT, (i % 65536) as u16);
 }
 
-// `i` becomes the first record of node `k`'s inbox.
+// `i` modulo 65,536 becomes the first record of node `k`'s inbox.
 pub fn set_first_of(s: &mut [u8], k: usize, i: usize)
     ensures { λ _. ⌜ now (s .exit) ≡ withRecord (now (s .entry)) 0 (withNumber 2 (recordOf (now (s .entry)) 0) (inboxAt k) i) ⌝ }
 {
@@ -80,7 +79,7 @@ pub fn set_first_of(s: &mut [u8], k: usize, i: usize)
     endian::write_u16(&mut s[0..record::SIZE], at, (i % 65536) as u16);
 }
 
-// `n` becomes the size of the group, as far as one byte holds it.
+// `n` modulo 256 becomes the size of the group.
 pub fn set_group_size(s: &mut [u8], n: usize)
     ensures { λ _. ⌜ now (s .exit) ≡ withRecord (now (s .entry)) 0 (set (recordOf (now (s .entry)) 0) sizeAt (n % 256)) ⌝ }
 {

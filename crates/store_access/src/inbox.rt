@@ -1,12 +1,11 @@
-// The message in a record of the store. Everything is proved, no public function has a `requires`, and each gives what one
-// definition of the crate `store` says.
+// The message in a record of the store.
 use crate::head;
 use message::Reading;
 ghost use mathlib.Core.Path.{_≡_};
 ghost use Rattle.store.specs.Sound.{messageAt};
 
 // The message in record `r`, or a fault where there is none. Of a sound store exactly the records on inbox chains have
-// one. Its rows are `record_read::items::rows`.
+// one. Its rows are `record_read::rows`.
 pub fn message(s: &[u8], r: u64) -> Reading
     ensures { λ a. ⌜ a ≡ messageAt (now (s .entry)) r ⌝ }
 {

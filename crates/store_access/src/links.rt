@@ -1,6 +1,5 @@
-// The link of one record to the next on its chain, and records cleared, at any place of any slice. Everything is proved,
-// no public function has a `requires`, and each gives what one definition of the crate `record` says. A record that does
-// not lie whole within the slice has no next, is not zero and is not written, whatever number is handed in.
+// The link of one record to the next on its chain, and records cleared, at any place of any slice. A record that does not
+// lie whole within the slice has no next, is not zero and is not written.
 use endian::zeros;
 use record::layout;
 ghost use mathlib.Core.Path.{_≡_};
@@ -20,7 +19,7 @@ pub fn next(s: &[u8], i: usize) -> usize
     endian::read_u16(&s[a..a + record::SIZE], layout::NEXT_AT) as usize
 }
 
-// `next` comes after record `i`, as far as two bytes hold it; no other byte changes.
+// `next` modulo 65,536 comes after record `i`; no other byte changes.
 pub fn set_next(s: &mut [u8], i: usize, next: usize)
     ensures { λ _. ⌜ now (s .exit) ≡ withRecord (now (s .entry)) i (withNext (recordOf (now (s .entry)) i) next) ⌝ }
 {

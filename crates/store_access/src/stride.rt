@@ -1,6 +1,5 @@
-// How far apart the records of a chain stand. Records are taken in rising order, so those of a chain often stand at equal
-// distances. Who follows a chain guesses the next record by the last distance, and holds the guess against the link: where
-// it was right, the processor went on with it while the link was still on its way from memory. Everything is proved.
+// The distance between two records of a chain. Who follows a chain guesses the next record by the last distance and compares
+// the guess with the link: where it was right, the processor has gone on without waiting for the link.
 ghost use mathlib.Core.Path.{_≡_};
 ghost use Prim.Native.Nat.{_-_};
 

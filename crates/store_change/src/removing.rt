@@ -1,6 +1,5 @@
-// A message dropped from a store over lent bytes. Everything is proved, the public function has no `requires`, and it
-// leaves the bytes that one definition of the crate `store` says. Bytes that are not as long as a store stay as they are;
-// whatever a store's bytes are, every call ends and stays inside them.
+// A message dropped from a store over lent bytes. Bytes that are not as long as a store stay as they are; whatever a store's
+// bytes are, every call ends and stays inside them.
 use std::num::wrapping_add_usize;
 use store_access::head;
 use store_access::links;

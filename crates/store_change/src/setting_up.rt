@@ -1,5 +1,4 @@
-// A store over lent bytes set up: every record free. Everything is proved, the public function has no `requires`, and it
-// leaves the bytes that one definition of the crate `store` says. Bytes that are not as long as a store stay as they are.
+// A store over lent bytes set up: every record free. Bytes that are not as long as a store stay as they are.
 use endian::zeros;
 use store_access::head;
 use store_access::links;

@@ -1,6 +1,5 @@
-// One chain of a store followed from its first record on, each record judged as it is passed. Everything is proved, no public
-// function has a `requires`, and each gives what one definition of the crate `store` says. In bytes that are not as long as
-// a store there is no chain. The marks of the records passed are lent: a copy of them would take longer than a short chain.
+// One chain of a store followed from its first record on, each record judged as it is passed. The marks of the records
+// passed are lent: a copy of them would take longer than a short chain.
 use record::SIZE;
 use record_read::endpoints;
 use record_read::endpoints::Ends;

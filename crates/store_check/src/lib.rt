@@ -57,7 +57,7 @@ fn follow_inboxes(s: &[u8], n: usize, free: Followed, passed: &mut [bool]) -> Fo
     last
 }
 
-// Whether every record was passed. All are looked at, by one loop without a way out, which the compiler widens.
+// Whether every record was passed. All are compared, by one branch-free loop, which the compiler vectorises.
 fn all_passed(passed: &[bool]) -> bool
     ensures { λ r. ⌜ r ≡ allPassed (now (passed .entry)) ⌝ }
 {

@@ -1,6 +1,5 @@
-// Delivery of Stored, decided by what is seen of the node: at f of them a node that is Storing asks these f to confirm. The
-// sender's incarnation is the envelope's. Everything is proved, no public function has a `requires`, and a decision is,
-// for every node that is seen so, the step that one definition of the crate `protocol` says.
+// Delivery of Stored, decided by the view of its sender: at f of them a node that is Storing asks these f to confirm. The
+// sender's incarnation is the envelope's.
 use item::Attempt;
 use item::Incarnation;
 use item::Item;

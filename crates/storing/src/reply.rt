@@ -1,6 +1,5 @@
-// Delivery of Store, decided by what is seen of the node: one that is Up stores it and answers Stored. The incarnation is
-// the envelope's. Everything is proved, no public function has a `requires`, and a decision is, for every node that is
-// seen so, the step that one definition of the crate `protocol` says.
+// Delivery of Store, decided by the view of its sender: a node that is Up stores it and answers Stored. The incarnation is
+// the envelope's.
 use item::Attempt;
 use item::Incarnation;
 use item::Item;

@@ -1,5 +1,4 @@
-// Whether a lent table is sound: the loop over its nodes, each of which is judged by value. Everything is proved, and no
-// function has a `requires`.
+// Whether a lent table is sound: the loop over its nodes, each of which is judged by value.
 use crate::node_at;
 use protocol::Node;
 ghost use mathlib.Core.Bool.{_&&_};

@@ -1,5 +1,4 @@
-// A lent table as set-up leaves it: the loop over its nodes, each of which is made by value. Everything is proved, and no
-// function has a `requires`.
+// A lent table as set-up leaves it: the loop over its nodes, each of which is made by value.
 use crate::replace_node;
 use protocol::Node;
 ghost use mathlib.Core.Path.{_≡_};

@@ -1,7 +1,5 @@
-// Drives three nodes by value through the events of the engine, and prints for each line of a script its answer, in the
-// words of the drill, and then each message that it sends: a write to settled; a crash, a start, the fetched tables and
-// the write-back to accepted; and a return that stops at the row of which two tables disagree. The stored output was
-// worked out from document 01.
+// Drives three nodes by value through a write, a return and a return that stops, and prints for each line of a script its
+// answer and each message that it sends. The stored output was worked out from document 01.
 //
 // A line of a script is a letter, a sender and the node at which it happens:
 //   n, w, c, s: the node is set up, writes tag 65, crashes, or starts

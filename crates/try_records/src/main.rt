@@ -1,6 +1,5 @@
-// Writes one record of each kind and prints their bytes in hexadecimal, sixteen to a line. In each record every byte
-// of every field differs from the others, so that a field that is swapped, shifted or turned shows. What must come is
-// worked out from the table of document 01, "Message store".
+// Writes one record of each kind and prints their bytes in hexadecimal, sixteen to a line. In a record every byte of every
+// field differs, so that a field swapped, shifted or turned shows. What must come is worked out from document 01.
 use item::Attempt;
 use item::Incarnation;
 use item::Index;
