@@ -1,3 +1,2 @@
 pub mod SetUpLaws
-pub mod Dropped
 pub mod PutBack

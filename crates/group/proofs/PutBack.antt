@@ -1,10 +1,11 @@
 -- An event at one node by value, and the node put back at its place, is what the protocol says of the whole table.
 use Prim.Native.Nat.{ℕ}
-use mathlib.Core.Path.{_≡_, refl, ap, _∙_}
+use mathlib.Core.Path.{_≡_, refl, sym, ap, _∙_}
 use mathlib.Core.Bool.{Bool, true, false, cond}
 use mathlib.Core.List.{List}
 use lib.Dec.{ltb}
-use lib.ListN.{set}
+use lib.ListN.{getD, set}
+use lib.Seq.{set-getD}
 use Rattle.message.specs.declared.Outgoing.{Outgoing}
 use Rattle.message.specs.declared.Reading.{Reading}
 use Rattle.message.specs.declared.Reading.the-variants.{Found, Fault}
@@ -18,7 +19,7 @@ use Rattle.operations.specs.Operation.{Result}
 use Rattle.protocol.specs.Answer.{isRefused}
 use Rattle.protocol.specs.Node.{rowItems}
 use Rattle.protocol.specs.Outgoing.{outgoing}
-use Rattle.protocol.specs.Table.{nodeAt, soundTable}
+use Rattle.protocol.specs.Table.{nodeAt, noNode, soundTable}
 use Rattle.protocol.specs.Deliver.{deliverStep}
 use Rattle.protocol.specs.declared.Answer.{Answer}
 use Rattle.protocol.specs.declared.Answer.the-variants as answer
@@ -30,11 +31,33 @@ use Rattle.protocol.specs.declared.Refusal.{Refusal}
 use Rattle.protocol.specs.declared.Refusal.the-variants.{StoreLength, Unsound, NoNode, NoRoom, NoMessage}
 use Rattle.protocol.specs.declared.Step.{Step}
 use Rattle.event.specs.Act as one
-use Rattle.event.specs.Act.{Outcome, addresseeOf, placeOf, lookAt}
+use Rattle.event.specs.Act.{Outcome, addresseeOf, placeOf, lookAt, droppingOf, handedBack}
+use Rattle.event.specs.declared.Acted.{Acted}
+use Rattle.event.specs.declared.Dropping.{Dropping}
 use Rattle.event.specs.declared.Seen.{Seen}
-use Rattle.event.proofs.Laws.{first-table, first-taken, acted-refused, acted-taken}
-use Rattle.group.specs.AtPlace.{putBack, atPlace}
-use Rattle.group.proofs.Dropped.{same-node}
+use Rattle.event.proofs.Laws.{first-table, first-taken, acted-refused, acted-taken, drop-node, dropping-is}
+use Rattle.table.proofs.Given.{Gives}
+
+-- the node afterwards stands at its place; where the table has none nothing is put
+abbrev putBack : List Node → ℕ → Outcome → Result
+putBack table k o = record { answer = o .answer; table = set table k (o .node); store = o .store }
+
+-- the node at its place is read, the event is carried out on it and the store, and the node is put back
+unfoldable atPlace : Event → Bool → Seen → List Node → List ℕ → Result
+atPlace e sound seen table store = putBack table (seen .place) (one.acted e sound seen (nodeAt table (seen .place)) store)
+
+-- what `drop_record` says of a record: its answer and the store, whatever the node is
+abbrev pub Drops : ℕ → Bool → Seen → List ℕ → Answer → List ℕ → Type 0
+Drops number sound seen store r after = (node : Node) → (r ≡ one.acted (event.Drop number) sound seen node store .answer) × (after ≡ one.acted (event.Drop number) sound seen node store .store)
+
+-- what `act` says of a node: the answer and the node that it hands back, and the store
+abbrev pub Acts : Event → Bool → Seen → Node → List ℕ → Acted → List ℕ → Type 0
+Acts e sound seen node store r after = (r ≡ handedBack (one.acted e sound seen node store)) × (after ≡ one.acted e sound seen node store .store)
+
+-- a node that is put back as it was changes nothing
+same-node : (table : List Node) (k : ℕ) → set table k (nodeAt table k) ≡ table
+unfolding nodeAt
+same-node table k = set-getD table k noNode
 
 back-cond : (table : List Node) (k : ℕ) (c : Bool) (a b : Outcome) → putBack table k (cond c a b) ≡ cond c (putBack table k a) (putBack table k b)
 back-cond table k true a b = refl
@@ -149,14 +172,37 @@ module _ (e : Event) (table : List Node) (store : List ℕ) where
   performed-at true false p q = performed-unsound p q
   performed-at true true p q = performed-sound p q
 
-  pub performed : byNode ≡ whole.perform e table store
+  performed : byNode ≡ whole.perform e table store
   performed = performed-at (rightLength store) (soundRecords (recordsOf store)) refl refl
 
   -- the calls of `group::perform` one after the other, each with what it ensures
-  pub performed-calls : (seen : Seen) (sound : Bool) (r : Answer) (l : List Node) (m : List ℕ) → seen ≡ lookAt e store → sound ≡ soundTable (seen .n) table
-      → (r ≡ atPlace e sound seen table store .answer) × ((l ≡ atPlace e sound seen table store .table) × (m ≡ atPlace e sound seen table store .store))
-      → (r ≡ whole.perform e table store .answer) × ((l ≡ whole.perform e table store .table) × (m ≡ whole.perform e table store .store))
-  performed-calls seen sound r l m e₀ e₁ e₂ =
-      let t : sound ≡ soundTable (lookAt e store .n) table = e₁ ∙ ap (λ (v : Seen). soundTable (v .n) table) e₀ in
-      let p : atPlace e sound seen table store ≡ whole.perform e table store = (λ i. atPlace e (t i) (e₀ i) table store) ∙ performed in
-      (e₂ .0 ∙ ap (λ (o : Result). o .answer) p, (e₂ .1 .0 ∙ ap (λ (o : Result). o .table) p, e₂ .1 .1 ∙ ap (λ (o : Result). o .store) p))
+  module _ (seen : Seen) (sound : Bool) (e₀ : seen ≡ lookAt e store) (e₁ : sound ≡ soundTable (seen .n) table) where
+    performed-seen : atPlace e sound seen table store ≡ whole.perform e table store
+    performed-seen =
+        let t : sound ≡ soundTable (lookAt e store .n) table = e₁ ∙ ap (λ (v : Seen). soundTable (v .n) table) e₀ in
+        (λ i. atPlace e (t i) (e₀ i) table store) ∙ performed
+
+    -- a Drop, from the store alone: the node that it would put back is the one that stands there
+    pub dropped-gives : (dropping : Dropping) (r : Answer) (after : List ℕ) → dropping ≡ droppingOf e → dropping .drops ≡ true → Drops (dropping .number) sound seen store r after
+        → Gives (whole.perform e table store) r table after
+    unfolding atPlace
+    dropped-gives dropping r after p drops d =
+        let k = seen .place in
+        let is : event.Drop (dropping .number) ≡ e = ap (λ (v : Dropping). event.Drop (v .number)) p ∙ sym (dropping-is e (sym (ap (λ (v : Dropping). v .drops) p) ∙ drops)) in
+        let all : atPlace (event.Drop (dropping .number)) sound seen table store ≡ whole.perform e table store = ap (λ (v : Event). atPlace v sound seen table store) is ∙ performed-seen in
+        let same : table ≡ atPlace (event.Drop (dropping .number)) sound seen table store .table =
+        sym (ap (set table k) (drop-node (dropping .number) sound seen (nodeAt table k) store) ∙ same-node table k) in
+        (d (nodeAt table k) .0 ∙ ap (λ (o : Result). o .answer) all, (same ∙ ap (λ (o : Result). o .table) all, d (nodeAt table k) .1 ∙ ap (λ (o : Result). o .store) all))
+
+    -- any other event, at its place
+    pub acted-gives : (v : Node) (r : Acted) (l : List Node) (m : List ℕ) → v ≡ getD table (seen .place) noNode → Acts e sound seen v store r m → l ≡ set table (seen .place) (r .node)
+        → Gives (whole.perform e table store) (r .answer) l m
+    unfolding atPlace nodeAt
+    acted-gives v r l m e₂ e₃ e₄ =
+        let out : r ≡ handedBack (one.acted e sound seen (nodeAt table (seen .place)) store) = e₃ .0 ∙ ap (λ (d : Node). handedBack (one.acted e sound seen d store)) e₂ in (
+          ap (λ (o : Acted). o .answer) out ∙ ap (λ (o : Result). o .answer) performed-seen,
+          (
+            e₄ ∙ ap (λ (o : Acted). set table (seen .place) (o .node)) out ∙ ap (λ (o : Result). o .table) performed-seen,
+            e₃ .1 ∙ ap (λ (d : Node). one.acted e sound seen d store .store) e₂ ∙ ap (λ (o : Result). o .store) performed-seen,
+          ),
+        )

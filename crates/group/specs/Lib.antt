@@ -1,2 +1,1 @@
 pub mod SetUp
-pub mod AtPlace
