@@ -1,4 +1,3 @@
 pub mod First
 pub mod Local
 pub mod Part
-pub mod Walk

@@ -4,18 +4,8 @@ use protocol::Answer;
 use protocol::Node;
 use script::Asked;
 ghost use mathlib.Core.Path.{_≡_};
-ghost use Rattle.script.specs.Operated.{operated, operatedFirst};
+ghost use Rattle.script.specs.Operated.{operatedFirst};
 ghost use Rattle.on_first_nodes.specs.Lending.{firstNodes};
-
-// What is asked, over the group's table.
-fn operate(table: &mut [Node], store: &mut [u8], asked: Asked) -> Answer
-    ensures { λ r. ⌜ (r ≡ operated asked (now (table .entry)) (now (store .entry)) .answer) × ((now (table .exit) ≡ operated asked (now (table .entry)) (now (store .entry)) .table) × (now (store .exit) ≡ operated asked (now (table .entry)) (now (store .entry)) .store)) ⌝ }
-{
-    if asked.begins {
-        return group::set_up(table, store, asked.n);
-    }
-    group::perform(table, store, asked.event)
-}
 
 // How many nodes are the table of a group of n, where so many are held: all of them, where there are fewer than n.
 fn first_nodes(n: u64, held: usize) -> usize
@@ -32,5 +22,9 @@ pub fn operate_first(nodes: &mut [Node], store: &mut [u8], asked: Asked) -> Answ
     ensures { λ r. ⌜ (r ≡ operatedFirst asked (now (nodes .entry)) (now (store .entry)) .answer) × ((now (nodes .exit) ≡ operatedFirst asked (now (nodes .entry)) (now (store .entry)) .table) × (now (store .exit) ≡ operatedFirst asked (now (nodes .entry)) (now (store .entry)) .store)) ⌝ }
 {
     let first = first_nodes(asked.n, nodes.len());
-    operate(&mut nodes[..first], store, asked)
+    let table = &mut nodes[..first];
+    if asked.begins {
+        return group::set_up(table, store, asked.n);
+    }
+    group::perform(table, store, asked.event)
 }
