@@ -2,7 +2,6 @@
 use mathlib.Core.Path.{_≡_, refl}
 use mathlib.Core.List.{[], _∷_}
 use Rattle.script.specs.Digits.{digitsOf, decimalOf}
-use Rattle.protocol.specs.Answer.{refusalNumber}
 use Rattle.protocol.specs.declared.Answer.the-variants.{Ok, Settled, Accepted, Refused}
 use Rattle.protocol.specs.declared.Refusal.the-variants.{Stale}
 use Rattle.answers.specs.Output.{tagBytes, itemBytes, answerBytes, replyBytes, outputLine}
@@ -25,7 +24,7 @@ unfolding outputLine replyBytes answerBytes decimalOf digitsOf
 ok-line = refl
 
 refused-line : outputLine 2 (Answered (Refused Stale)) ≡ 50 ∷ 32 ∷ 114 ∷ 101 ∷ 102 ∷ 117 ∷ 115 ∷ 101 ∷ 100 ∷ 32 ∷ 49 ∷ 48 ∷ 10 ∷ []
-unfolding outputLine replyBytes answerBytes refusalNumber decimalOf digitsOf
+unfolding outputLine replyBytes answerBytes decimalOf digitsOf
 refused-line = refl
 
 unread-line : outputLine 3 Unread ≡ 51 ∷ 32 ∷ 117 ∷ 110 ∷ 114 ∷ 101 ∷ 97 ∷ 100 ∷ 10 ∷ []

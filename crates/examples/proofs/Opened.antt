@@ -5,14 +5,14 @@ use Rattle.item.specs.Row.{sameRow}
 use Rattle.message.specs.Rows.{rowsHeld, padded, heldRows}
 use Rattle.record.specs.Kind.{kindOf, otherOf, attemptOf, itemOf, fieldsOf}
 use Rattle.store.specs.Change.{countOutgoing}
-use Rattle.protocol.specs.Answer.{refusalNumber, refused, ok, isRefused}
+use Rattle.protocol.specs.Answer.{refused, ok}
 use Rattle.protocol.specs.Deliver.{onMessage, deliverStep}
 use Rattle.protocol.specs.Fetching.{onFetch, noneCounted, withTable, hasConflict, stopped, writtenBack, nodeRecover, tableCounted, onTable}
 use Rattle.protocol.specs.Merge.{mergeRow, mergeRows, lowestMarked}
 use Rattle.protocol.specs.Network.{packetOf, packetsOf, networkAfter, freshNetwork}
 use Rattle.protocol.specs.Node.{half, rowOf, ownItem, peerOf, countPeers, blankNode, crashed, started, storingBegun, withRow, withCounted, confirmingBegun, writeEnded, withRows, freshNode, rowItems}
 use Rattle.protocol.specs.Outgoing.{goesTo, messageTo, outgoingTo, outgoingFrom, outgoing}
-use Rattle.protocol.specs.Phase.{isDown, isFetching, isUp, isIdleStage, isStoringStage, isConfirmingStage, isUpIdle, isStoring, isConfirming, isReturning, atStage}
+use Rattle.protocol.specs.Phase.{atStage}
 use Rattle.protocol.specs.Sound.{everyFrom, rowUse, rowFits, rowSound, peerSound, stageCounts, phaseCounts, attemptFits, amongAsked, countedAsked, rowsSound, peersSound, soundNode}
 use Rattle.protocol.specs.Storing.{storeVerdict, replyStore, onStore, ownWrite, isCounted, sendConfirm, storedCounted, onStored, storedUnder, onConfirm, askedUnder, endAnswer, storeSuccess, confirmedCounted, onConfirmed}
 use Rattle.protocol.specs.Table.{nodeAt, soundTable, freshNodes, freshTable}
@@ -31,33 +31,33 @@ fields = tt
 
 -- Write, Crash and Start
 unfoldable pub calling : Unit {0}
-unfolding fields writeStep isUpIdle isIdleStage writeAtLargest indexAtLargest attemptAtLargest sendStore written storingBegun nextAttempt nextItem nextIndex crashStep startStep isDown crashed started incarnationAtLargest nextIncarnation sendFetch
+unfolding fields writeStep writeAtLargest indexAtLargest attemptAtLargest sendStore written storingBegun nextAttempt nextItem nextIndex crashStep startStep crashed started incarnationAtLargest nextIncarnation sendFetch
 calling = tt
 
 -- Store and Stored
 unfoldable pub storing : Unit {0}
-unfolding fields deliverStep onMessage onStore isUp storeVerdict earlier replyStore withRow onStored isStoring isStoringStage ownWrite isCounted storedCounted withCounted sendConfirm confirmingBegun atStage
+unfolding fields deliverStep onMessage onStore storeVerdict earlier replyStore withRow onStored ownWrite isCounted storedCounted withCounted sendConfirm confirmingBegun atStage
 storing = tt
 
 -- Confirm and Confirmed
 unfoldable pub confirming : Unit {0}
-unfolding fields deliverStep onMessage onConfirm isUp storedUnder onConfirmed isConfirming isConfirmingStage ownWrite askedUnder isCounted withCounted confirmedCounted storeSuccess endAnswer isReturning
+unfolding fields deliverStep onMessage onConfirm storedUnder onConfirmed ownWrite askedUnder isCounted withCounted confirmedCounted storeSuccess endAnswer
 confirming = tt
 
 -- Fetch and Table
 unfoldable pub fetching : Unit {0}
-unfolding fields deliverStep onMessage onFetch isUp onTable isFetching isCounted noneCounted withTable withRows withCounted mergeRows mergeRow hasConflict lowestMarked stopped crashed nodeRecover tableCounted writtenBack storingBegun sendStore
+unfolding fields deliverStep onMessage onFetch onTable isCounted noneCounted withTable withRows withCounted mergeRows mergeRow hasConflict lowestMarked stopped crashed nodeRecover tableCounted writtenBack storingBegun sendStore
 fetching = tt
 
 -- ---- table and messages
 
 unfoldable table-soundness : Unit {0}
-unfolding fields soundTable freshTable freshNodes everyFrom soundNode attemptFits rowsSound rowUse rowFits rowSound sameRow peersSound peerSound phaseCounts stageCounts countedAsked isConfirming isConfirmingStage amongAsked
+unfolding fields soundTable freshTable freshNodes everyFrom soundNode attemptFits rowsSound rowUse rowFits rowSound sameRow peersSound peerSound phaseCounts stageCounts countedAsked amongAsked
 table-soundness = tt
 
 -- what is sent, with the rows beside it, and the network after it
 unfoldable pub sending : Unit {0}
-unfolding fields outgoing outgoingFrom outgoingTo goesTo messageTo peerOf rowItems heldRows rowsHeld padded isRefused freshNetwork freshTable freshNodes nodeAt networkAfter packetsOf packetOf
+unfolding fields outgoing outgoingFrom outgoingTo goesTo messageTo peerOf rowItems heldRows rowsHeld padded freshNetwork freshTable freshNodes nodeAt networkAfter packetsOf packetOf
 sending = tt
 
 -- that it is put into the store, and fits
@@ -68,5 +68,5 @@ putting = tt
 -- ---- the calls of a drill, one after the other
 
 unfoldable pub following : Unit {0}
-unfolding calling storing confirming fetching table-soundness putting trace after afterEvent afterCall afterDelivery afterStep found beside said refusalNumber
+unfolding calling storing confirming fetching table-soundness putting trace after afterEvent afterCall afterDelivery afterStep found beside said
 following = tt

@@ -9,7 +9,6 @@ use lib.ListN.{length, drop, length-drop}
 use borrow.Author.Tests.{eqb-true, eq-eqb, ne-eqb}
 use Rattle.item.specs.Maxima.{validSize}
 use Rattle.store.specs.Records.{rightLength}
-use Rattle.protocol.specs.Answer.{refusalNumber}
 use Rattle.operations.specs.Operation.{setUp, refuse}
 use Rattle.operations.specs.Run.{calls}
 use Rattle.protocol.specs.Table.{freshTable}
@@ -31,11 +30,11 @@ module _ (n : ℕ) (table : List Node) (store : List ℕ) (many : length table �
       (ap (λ (l : List Said). said.ok ∷ l) (answered (holds-none n valid) (freshTable n) events e))
 
   pub not-valid : validSize n ≡ false → drill n table store [] ≡ said.gives 1 ∷ []
-  unfolding drill setUp said refuse refusalNumber calls
+  unfolding drill setUp said refuse calls
   not-valid e = rw e
 
   pub short : validSize n ≡ true → rightLength store ≡ false → drill n table store [] ≡ said.gives 2 ∷ []
-  unfolding drill setUp said refuse refusalNumber calls
+  unfolding drill setUp said refuse calls
   short valid e = rw (valid, eq-eqb (length table) n many, e)
 
 -- a store of one byte fewer has not the right length

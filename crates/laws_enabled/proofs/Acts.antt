@@ -42,7 +42,7 @@ use Rattle.laws_enabled.proofs.Calls.{write-node, retry-node, crash-nod
 use Rattle.laws_enabled.proofs.Deliveries.{message-node}
 
 pub set-up-acts : SetUpActs
-unfolding SetUpActs setUp refuse acted isRefused
+unfolding SetUpActs setUp refuse acted
 set-up-acts n table store =
     by-cond Test (validSize n && eqb (length table) n) _ _
     (λ v. by-cond Test (rightLength store) _ _ (λ l. rw (v, l)) (λ l. rw (v, l)))
@@ -59,7 +59,7 @@ module _ (n : ℕ) (table : List Node) (store : List ℕ) (G : SoundGroup n tabl
   at-node : (f : Node → Step) (k : ℕ) (test : Bool)
       → (k < n → acted (carriedOut table store (recordsOf store) k k (f (nodeAt table k))) ≡ test)
       → acted (atNode f k table store (recordsOf store)) ≡ (ltb k n && test)
-  unfolding atNode refuse acted isRefused
+  unfolding atNode refuse acted
   at-node f k test h =
       by-cond (λ (r : Result). acted r ≡ (ltb k n && test)) (ltb k (groupSize (recordsOf store))) _ _
       (λ e.
@@ -89,14 +89,14 @@ module _ (n : ℕ) (table : List Node) (store : List ℕ) (G : SoundGroup n tabl
 
   drops : (r : ℕ) (m : Reading) → messageIn (recordsOf store) r ≡ m
       → acted (dropped m r table store (recordsOf store)) ≡ onInbox n r (recordsOf store)
-  unfolding dropped refuse acted isRefused
+  unfolding dropped refuse acted
   drops r Fault h = sym (fault-off r h)
   drops r (Found e) h = sym (found-on r e h)
 
   delivers : (r : ℕ) (m : Reading) → messageIn (recordsOf store) r ≡ m
       → acted (delivered m r table store (recordsOf store))
       ≡ (onInbox n r (recordsOf store) && isTaken n m (rowsOf (recordIn (recordsOf store) r)) table (recordsOf store))
-  unfolding delivered refuse acted isRefused isTaken deliverStep
+  unfolding delivered refuse acted isTaken deliverStep
   delivers r Fault h = rw (fault-off r h)
   delivers r (Found e) h =
       rw (found-on r e h)

@@ -7,7 +7,7 @@ use Rattle.item.specs.Counter.{attemptAtLargest, incarnationAtLargest}
 use Rattle.item.specs.Maxima.{maxNodes}
 use Rattle.item.specs.Tests.{by-cond}
 use Rattle.item.specs.declared.Tag.{Tag}
-use Rattle.protocol.specs.Answer.{ok, isRefused}
+use Rattle.protocol.specs.Answer.{ok}
 use Rattle.operations.specs.Operation.{carriedOut}
 use Rattle.protocol.specs.Phase.{isDown, isIdle, isFetching, isUpIdle}
 use Rattle.protocol.specs.Sound.{soundNode}
@@ -61,7 +61,7 @@ module _ (table : List Node) (store : List ℕ) (rs : List (List ℕ)) (n k : �
           ((isFetching (node .phase) || not (attemptAtLargest (node .attempt))) && isRoomFor (n - 1) rs)
 
   pub crash-node : acted (carriedOut table store rs k k (crashStep node)) ≡ not (isDown (node .phase))
-  unfolding crashStep ok isRefused
+  unfolding crashStep ok
   crash-node =
       by-cond (λ (step : Step). acted (carriedOut table store rs k k step) ≡ not (isDown (node .phase))) (isDown (node .phase)) _ _
       (λ e. rw e (refused-acts table store rs k k node WrongStage))

@@ -35,7 +35,7 @@ use Rattle.laws_enabled.proofs.Steps.{refused-acts, quiet-acts, store-a
 
 -- the answer at the end of a write is no refusal
 end-taken : (p : Phase) (i : Item) → isRefused (endAnswer p i) ≡ false
-unfolding endAnswer isRefused
+unfolding endAnswer
 end-taken p i = by-cond (λ (a : Answer). isRefused a ≡ false) (isReturning p) _ _ (λ _. refl) (λ _. refl)
 
 module _ (table : List Node) (store : List ℕ) (rs : List (List ℕ)) (n k : ℕ) (low : k < n) (most : n ≤ maxNodes)
@@ -80,7 +80,7 @@ module _ (table : List Node) (store : List ℕ) (rs : List (List ℕ)) (n k : �
   stored-node : (o : Incarnation) (a : Attempt) (item : Item)
       → ActsAs ((isStoring (node .phase) && (ownWrite node o a item && not (isCounted node sender))) &&
       isRoomFor (cond (belowHalf (withCounted node sender i)) 0 (half n)) rs) (onStored node sender i o a item)
-  unfolding onStored storedCounted ok isRefused
+  unfolding onStored storedCounted ok
   stored-node o a item =
       by-cond (ActsAs test) (isStoring (node .phase)) _ _
       (λ e. by-cond (ActsAs test) (ownWrite node o a item) _ _
@@ -113,7 +113,7 @@ module _ (table : List Node) (store : List ℕ) (rs : List (List ℕ)) (n k : �
   confirmed-node : (o : Incarnation) (a : Attempt) (item : Item)
       → ActsAs ((isConfirming (node .phase) && ((ownWrite node o a item && askedUnder node sender i) && not (isCounted node sender))) && isRoomFor 0 rs)
       (onConfirmed node sender i o a item)
-  unfolding onConfirmed confirmedCounted storeSuccess ok isRefused
+  unfolding onConfirmed confirmedCounted storeSuccess ok
   confirmed-node o a item =
       by-cond (ActsAs test) (isConfirming (node .phase)) _ _
       (λ e. by-cond (ActsAs test) (ownWrite node o a item && askedUnder node sender i) _ _
@@ -139,7 +139,7 @@ module _ (table : List Node) (store : List ℕ) (rs : List (List ℕ)) (n k : �
       → ActsAs ((isFetching (node .phase) && (ownIncarnation node o && not (isCounted node sender))) &&
       isRoomFor (cond (atMostHalf (withTable node sender i items)) 0 (cond (hasConflict (withTable node sender i items)) 0 (n - 1))) rs)
       (onTable node sender i o items)
-  unfolding onTable tableCounted nodeRecover stopped sendStore ok isRefused
+  unfolding onTable tableCounted nodeRecover stopped sendStore ok
   table-node o items =
       by-cond (ActsAs test) (isFetching (node .phase)) _ _
       (λ e. by-cond (ActsAs test) (ownIncarnation node o) _ _

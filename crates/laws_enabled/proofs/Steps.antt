@@ -33,12 +33,12 @@ use Rattle.laws_enabled.proofs.Sent.{nothing-sent, others-sent, one-sen
 
 module _ (table : List Node) (store : List ℕ) (rs : List (List ℕ)) (k back : ℕ) where
   pub refused-acts : (node : Node) (why : Refusal) → acted (carriedOut table store rs k back (refused node why)) ≡ false
-  unfolding carriedOut refused isRefused acted
+  unfolding carriedOut refused acted
   refused-acts node why = refl
 
   sent-acts : (step : Step) (c : ℕ) → isRefused (step .answer) ≡ false → countOutgoing (outgoing (step .node) (step .sends) back) ≡ c
       → acted (carriedOut table store rs k back step) ≡ isRoomFor c rs
-  unfolding carriedOut sentBy acted isRoomFor refuse isRefused
+  unfolding carriedOut sentBy acted isRoomFor refuse
   sent-acts step c e z =
       rw e (by-cond (λ (r : Result). not (isRefused (r .answer)) ≡ leb c (freeCount rs))
       (ltb (freeCount rs) (countOutgoing (outgoing (step .node) (step .sends) back))) _ _
@@ -62,22 +62,22 @@ module _ (table : List Node) (store : List ℕ) (rs : List (List ℕ)) (k back :
         others-sent node back m (omega arith) (omega arith) ∙ ap (λ (i : ℕ). i - 1) size
 
     pub store-acts : acted (carriedOut table store rs k back (sendStore node)) ≡ isRoomFor (n - 1) rs
-    unfolding sendStore ok isRefused
+    unfolding sendStore ok
     store-acts = sent-acts (sendStore node) (n - 1) refl (others-count _)
 
     pub fetch-acts : acted (carriedOut table store rs k back (sendFetch node)) ≡ isRoomFor (n - 1) rs
-    unfolding sendFetch ok isRefused
+    unfolding sendFetch ok
     fetch-acts = sent-acts (sendFetch node) (n - 1) refl (others-count _)
 
     pub back-acts : (m : Message) → back < n → acted (carriedOut table store rs k back (ok node (sends.Back m))) ≡ isRoomFor 1 rs
-    unfolding ok isRefused
+    unfolding ok
     back-acts m b =
         let size : node .n ≡ n = size-is n k node sound in
         sent-acts (ok node (sends.Back m)) 1 refl (one-sent node back m (omega arith) (omega arith))
 
     pub confirm-acts : Shaped node → countPeers (node .asked) ≡ half n
         → acted (carriedOut table store rs k back (sendConfirm node)) ≡ isRoomFor (half n) rs
-    unfolding sendConfirm ok isRefused
+    unfolding sendConfirm ok
     confirm-acts shaped f =
         sent-acts (sendConfirm node) (half n) refl
         (asked-sent node back _ _ k

@@ -58,7 +58,7 @@ module _ (n : ℕ) (table : List Node) (store : List ℕ) (G : SoundGroup n tabl
     carried : acted (carriedOut table store (recordsOf store) k back step) ≡ true
         → EachPut (recordsOf store) (recordsOf (carriedOut table store (recordsOf store) k back step .store))
         (outgoing (step .node) (step .sends) back) (rowItems (step .node))
-    unfolding carriedOut sentBy refuse acted isRefused
+    unfolding carriedOut sentBy refuse acted
     carried =
         by-cond Put (isRefused (step .answer)) _ _
         (λ e z. absurd (false≢true (sym (ap not e) ∙ z)))
@@ -76,7 +76,7 @@ module _ (n : ℕ) (table : List Node) (store : List ℕ) (G : SoundGroup n tabl
   at-node : (f : Node → Step) (k : ℕ) → (k < n → Decided n table k k (f (nodeAt table k))) → acted (atNode f k table store (recordsOf store)) ≡ true
       → EachPut (recordsOf store) (recordsOf (atNode f k table store (recordsOf store) .store))
       (outgoing (f (nodeAt table k) .node) (f (nodeAt table k) .sends) k) (rowItems (f (nodeAt table k) .node))
-  unfolding atNode refuse acted isRefused
+  unfolding atNode refuse acted
   at-node f k d =
       by-cond
       (λ (r : Result). acted r ≡ true → EachPut (recordsOf store) (recordsOf (r .store))
@@ -88,7 +88,7 @@ module _ (n : ℕ) (table : List Node) (store : List ℕ) (G : SoundGroup n tabl
   delivers : (r : ℕ) (m : Reading) → messageIn (recordsOf store) r ≡ m → acted (delivered m r table store (recordsOf store)) ≡ true
       → EachPut (recordsOf store) (recordsOf (delivered m r table store (recordsOf store) .store))
       (sentFor m (rowsOf (recordIn (recordsOf store) r)) table .messages) (sentFor m (rowsOf (recordIn (recordsOf store) r)) table .rows)
-  unfolding delivered refuse acted isRefused sentFor
+  unfolding delivered refuse acted sentFor
   delivers r Fault h z = absurd (false≢true z)
   delivers r (Found e) h z = carried (e .addressee) (e .sender) _ (deliver-decided n table store G r e h) z
 
@@ -112,7 +112,7 @@ module _ (n : ℕ) (table : List Node) (store : List ℕ) (G : SoundGroup n tabl
 
   drops : (r : ℕ) (m : Reading) → messageIn (recordsOf store) r ≡ m → acted (dropped m r table store (recordsOf store)) ≡ true
       → HoldsAfter n (event.Drop r) table (recordsOf store) (recordsOf (dropped m r table store (recordsOf store) .store))
-  unfolding dropped refuse acted isRefused
+  unfolding dropped refuse acted
   drops r Fault h z = absurd (false≢true z)
   drops r (Found e) h z =
       let w = message-inbox (recordsOf store) (group-records n table store G) r e h in

@@ -34,11 +34,9 @@ use Rattle.laws_liveness.proofs.Begins.{begins}
 use Rattle.laws_liveness.proofs.Lists.{each-map}
 
 up-not-down : (p : Phase) → isUp p ≡ true → isDown p ≡ false
-unfolding isDown
 up-not-down = up-cases (λ p. isDown p ≡ false) (λ _. refl)
 
 up-not-fetching : (p : Phase) → isUp p ≡ true → isFetching p ≡ false
-unfolding isFetching
 up-not-fetching = up-cases (λ p. isFetching p ≡ false) (λ _. refl)
 
 up-storing : (p : Phase) → isUp p ≡ true → atStage p Storing ≡ Up Storing

@@ -11,7 +11,7 @@ use Rattle.message.specs.declared.Reading.the-variants.{Found}
 use Rattle.store.specs.Change.{countOutgoing}
 use Rattle.store.specs.Records.{recordsOf}
 use Rattle.store.specs.Sound.{freeCount, messageIn}
-use Rattle.protocol.specs.Answer.{ok, isRefused}
+use Rattle.protocol.specs.Answer.{ok}
 use Rattle.protocol.specs.Node.{half, noPeers, rowOf, ownItem}
 use Rattle.operations.specs.Operation.{Result, carriedOut}
 use Rattle.protocol.specs.Outgoing.{outgoing, outgoingTo, goesTo, messageTo}
@@ -54,7 +54,7 @@ module _ (n x : ℕ) (low : x < n) (before : Result) (G : LeavesSound n before) 
       ∙ ap (λ (i : ℕ). i - 1) size
 
   acted : Acted n before x x (sendStore writer) begun
-  unfolding sendStore ok isRefused
+  unfolding sendStore ok
   acted = carried-acted n before G x x (sendStore writer) D refl (omega (arith, sent)) begun begun-is group
 
   x-is : nodeAt (begun .table) x ≡ writer

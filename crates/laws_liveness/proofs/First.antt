@@ -27,7 +27,7 @@ use Rattle.store.specs.Sound.{freeCount}
 use Rattle.operations.specs.Claim.{TagFits}
 use Rattle.protocol.specs.Node.{half, zeroRows, blankNode, freshNode, rowOf, ownItem, storingBegun, writeEnded}
 use Rattle.operations.specs.Operation.{Result, carriedOut, atNode, onSound, setUp, perform}
-use Rattle.protocol.specs.Phase.{isUp, isUpIdle, isIdleStage}
+use Rattle.protocol.specs.Phase.{isUp}
 use Rattle.protocol.specs.Table.{noNode, nodeAt, freshNodes, freshTable}
 use Rattle.protocol.specs.Write.{sendStore, nextItem, writeAtLargest, written, writeStep}
 use Rattle.protocol.specs.declared.Answer.the-variants as answer
@@ -75,7 +75,7 @@ unfolding ownItem
 fresh-own n x = ap (λ (r : Row). r .item) (fresh-row x n (freshNode x n .number))
 
 writes : (n x : ℕ) (tag : Tag) → writeStep (freshNode x n) tag ≡ sendStore (writer n x tag)
-unfolding writeStep writeAtLargest isUpIdle isIdleStage freshNode writeEnded blankNode attemptAtLargest indexAtLargest
+unfolding writeStep writeAtLargest freshNode writeEnded blankNode attemptAtLargest indexAtLargest
 writes n x tag = rw (large)
   where
     large : writeAtLargest (freshNode x n) ≡ false
@@ -113,7 +113,7 @@ module _ (n x : ℕ) (low : x < n) (most : n ≤ maxNodes) (tag : Tag) (t : tag 
       (ap (carriedOut (before .table) (before .store) (recordsOf (before .store)) x x) step-is)
 
   fresh-up : (q : ℕ) → q < n → isUp (nodeAt (before .table) q .phase) ≡ true
-  unfolding isUp freshNode writeEnded blankNode
+  unfolding freshNode writeEnded blankNode
   fresh-up q h = ap (λ (v : Node). isUp (v .phase)) (node-fresh q h)
 
   -- a zero row takes an item of index 1

@@ -19,7 +19,7 @@ use Rattle.message.specs.declared.Reading.the-variants.{Found}
 use Rattle.store.specs.Change.{countOutgoing}
 use Rattle.store.specs.Records.{recordsOf, recordIn}
 use Rattle.store.specs.Sound.{freeCount, messageIn}
-use Rattle.protocol.specs.Answer.{ok, isRefused}
+use Rattle.protocol.specs.Answer.{ok}
 use Rattle.protocol.specs.Deliver.{deliverStep}
 use Rattle.operations.specs.Operation.{Result}
 use Rattle.protocol.specs.Outgoing.{outgoing, outgoingTo, goesTo, messageTo}
@@ -60,7 +60,7 @@ module _ (n x : ℕ) (x-low : x < n) (i : Incarnation) (m m′ : ℕ → Message
 
   one : (q r : ℕ) (before : Result) → LeavesSound n before → messageIn (recordsOf (before .store)) r ≡ Found (envelopeOf x q i (m q)) → q < n
       → P q (nodeAt (before .table) q) → 1 ≤ freeCount (recordsOf (before .store)) → One q r before
-  unfolding ok isRefused outgoingTo goesTo messageTo
+  unfolding ok outgoingTo goesTo messageTo
   one q r before G h low p room =
       record {
         is-ok = A .answer-is;

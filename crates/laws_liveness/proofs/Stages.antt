@@ -21,7 +21,7 @@ use Rattle.protocol.specs.Answer.{ok, isRefused}
 use Rattle.protocol.specs.Deliver.{onMessage, deliverStep}
 use Rattle.protocol.specs.Node.{half, countPeers, rowOf, ownItem, storedRow, peerOf, withRow, withCounted, confirmingBegun, belowHalf}
 use Rattle.protocol.specs.Outgoing.{outgoing}
-use Rattle.protocol.specs.Phase.{isUp, isStoring, isStoringStage, isConfirming, isConfirmingStage, isReturning, atStage}
+use Rattle.protocol.specs.Phase.{isUp, isStoring, isConfirming, isReturning, atStage}
 use Rattle.protocol.specs.Sound.{soundNode, peersSound}
 use Rattle.protocol.specs.Storing.{storeVerdict, replyStore, onStore, ownWrite, isCounted, sendConfirm, storedCounted, onStored, storedUnder, onConfirm, askedUnder, endAnswer, storeSuccess, confirmedCounted, onConfirmed}
 use Rattle.protocol.specs.declared.Answer.{Answer}
@@ -125,7 +125,7 @@ module _ (n x : ℕ) (i : Incarnation) (a : Attempt) (item : Item) (under : ℕ 
   pub stored-taken : (q : ℕ) (node : Node) (items : List Item) → AtStoring q node → isCounted node q ≡ false
       → deliverStep node (envelopeOf q x (under q) (message.Stored i a item)) items
       ≡ cond (belowHalf (withCounted node q (under q))) (ok (withCounted node q (under q)) sends.Nothing) (toConfirm (withCounted node q (under q)))
-  unfolding deliverStep onMessage onStored storedCounted isStoring isStoringStage
+  unfolding deliverStep onMessage onStored storedCounted
   stored-taken q node items w c =
       let s : isStoring (node .phase) ≡ true = ap isStoring (w .0) in
       rw (s, own-write node (w .1), c)
@@ -136,7 +136,7 @@ module _ (n x : ℕ) (i : Incarnation) (a : Attempt) (item : Item) (under : ℕ 
 
   pub confirm-fits : (node : Node) (q : ℕ) → soundNode n x (toConfirm node .node) ≡ true → Shaped (toConfirm node .node) → countPeers (node .counted) ≡ half n
       → (isRefused (toConfirm node .answer) ≡ false) × (countOutgoing (outgoing (toConfirm node .node) (toConfirm node .sends) q) ≤ half n)
-  unfolding sendConfirm ok isRefused confirmingBegun
+  unfolding sendConfirm ok confirmingBegun
   confirm-fits node q sound shaped full =
       let next : Node = confirmingBegun node (atStage (node .phase) Confirming) in
       let count : countOutgoing (outgoing next (sends.Asked (next .attempt) (ownItem next)) q) ≡ countPeers (node .counted) =
@@ -150,7 +150,7 @@ module _ (n x : ℕ) (i : Incarnation) (a : Attempt) (item : Item) (under : ℕ 
   pub confirmed-taken : (q : ℕ) (node : Node) (items : List Item) → AtConfirming q node → isCounted node q ≡ false
       → deliverStep node (envelopeOf q x (under q) (message.Confirmed i a item)) items
       ≡ cond (belowHalf (withCounted node q (under q))) (ok (withCounted node q (under q)) sends.Nothing) (storeSuccess (withCounted node q (under q)))
-  unfolding deliverStep onMessage onConfirmed confirmedCounted isConfirming isConfirmingStage askedUnder
+  unfolding deliverStep onMessage onConfirmed confirmedCounted askedUnder
   confirmed-taken q node items w c =
       let s : isConfirming (node .phase) ≡ true = ap isConfirming (w .0) in
       let present : peerOf (node .asked) q .present ≡ true = ap (λ (p : Peer). p .present) (w .2) in
@@ -163,7 +163,7 @@ module _ (n x : ℕ) (i : Incarnation) (a : Attempt) (item : Item) (under : ℕ 
   confirming-kept p q node w = w
 
   end-taken : (p : Phase) (k : Item) → isRefused (endAnswer p k) ≡ false
-  unfolding endAnswer isRefused
+  unfolding endAnswer
   end-taken p k = by-cond (λ (r : Answer). isRefused r ≡ false) (isReturning p) _ _ (λ _. refl) (λ _. refl)
 
   pub success-fits : (node : Node) (q : ℕ) → soundNode n x (storeSuccess node .node) ≡ true → Shaped (storeSuccess node .node) → countPeers (node .counted) ≡ half n
@@ -178,5 +178,5 @@ module _ (n x : ℕ) (i : Incarnation) (a : Attempt) (item : Item) (under : ℕ 
 
   -- the end of a write that was not a return
   pub settles : (node : Node) → (p : ℕ) → AtConfirming p node → storeSuccess node .answer ≡ answer.Settled item
-  unfolding storeSuccess endAnswer isReturning
+  unfolding storeSuccess endAnswer
   settles node p w = rw (w .1 .2, w .0)

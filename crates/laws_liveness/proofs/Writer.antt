@@ -96,7 +96,7 @@ module _ (n x : ℕ) (x-low : x < n) (under : ℕ → Incarnation) (m : Message)
 
     -- not the f-th
     counts : suc (countPeers (nodeAt (before .table) x .counted)) < half n → Acted n before x q (ok (with-q before q) sends.Nothing) (deliver before r)
-    unfolding withCounted ok isRefused
+    unfolding withCounted ok
     counts few =
         let t : ltb (countPeers (withCounted (nodeAt (before .table) x) q (under q) .counted)) (half (nodeAt (before .table) x .n)) ≡ true =
         lt-ltb (countPeers (withCounted (nodeAt (before .table) x) q (under q) .counted)) (half (nodeAt (before .table) x .n)) (omega (arith, counted-now, ap half size)) in

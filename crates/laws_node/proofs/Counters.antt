@@ -109,7 +109,7 @@ starts-anew node l e d =
 
 -- a sound node that is Fetching has attempt 0
 fetching-attempt : (p : Phase) (a : Attempt) → isFetching p ≡ true → attemptFits p a ≡ true → a .0 ≤ 1
-unfolding isFetching attemptFits
+unfolding attemptFits
 fetching-attempt Down a e h = absurd (false≢true e)
 fetching-attempt Fetching a e h = omega (arith, ap (λ (b : Attempt). b .0) (same-attempt a (record { 0 = 0 }) h))
 fetching-attempt (Returning s) a e h = absurd (false≢true e)
@@ -117,7 +117,7 @@ fetching-attempt (Up s) a e h = absurd (false≢true e)
 
 received-rises : (node : Node) (s : ℕ) (i : Incarnation) (items : List Item) (m : Message) (step : Step)
     → attemptFits (node .phase) (node .attempt) ≡ true → Received node s i items m step → Rises node (step .node)
-unfolding refused ok sendConfirm sendStore storeSuccess stopped writtenBack storingBegun crashed blankNode withTable withCounted withRow withRows confirmingBegun writeEnded isDown
+unfolding refused ok sendConfirm sendStore storeSuccess stopped writtenBack storingBegun crashed blankNode withTable withCounted withRow withRows confirmingBegun writeEnded
 received-rises node s i items m step h (declines m′ why) = λ _ _. same-not-less _ _ refl
 received-rises node s i items m step h (takes a item up) = λ _ _. same-not-less _ _ refl
 received-rises node s i items m step h (countsStored o a item e l) = λ _ _. same-not-less _ _ refl
@@ -133,7 +133,7 @@ received-rises node s i items m step h (writesBack o e c) =
 
 outcome-rises : (node : Node) (d : Decision) (step : Step) → attemptFits (node .phase) (node .attempt) ≡ true
     → Outcome node d step → Rises node (step .node)
-unfolding refused ok sendFetch sendStore written retried storingBegun crashed blankNode isDown
+unfolding refused ok sendFetch sendStore written retried storingBegun crashed blankNode
 outcome-rises node d step h (refuses d′ why) = λ _ _. same-not-less _ _ refl
 outcome-rises node d step h (writes tag e) = λ _ _. attempt-rises (node .attempt)
 outcome-rises node d step h fetchesAgain = λ _ _. same-not-less _ _ refl

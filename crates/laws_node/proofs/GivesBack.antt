@@ -49,20 +49,19 @@ by-refused node why why′ e = (refl, refl)
 
 -- what is not refused answers no refusal
 by-answer : (node : Node) (step : Step) → isRefused (step .answer) ≡ false → GivesBack node step
-unfolding isRefused
 by-answer node step h why e = absurd (false≢true (sym h ∙ ap isRefused e))
 
 by-ok : (node node′ : Node) (out : Sends) → GivesBack node (ok node′ out)
-unfolding ok isRefused
+unfolding ok
 by-ok node node′ out = by-answer node (ok node′ out) refl
 
 by-end : (node node′ : Node) → GivesBack node (storeSuccess node′)
-unfolding storeSuccess endAnswer isRefused
+unfolding storeSuccess endAnswer
 by-end node node′ = by-answer node (storeSuccess node′)
     (by-cond (λ a. isRefused a ≡ false) (isReturning (node′ .phase)) (answer.Accepted _) (answer.Settled _) (λ _. refl) (λ _. refl))
 
 by-stop : (node node′ : Node) → GivesBack node (stopped node′)
-unfolding stopped isRefused
+unfolding stopped
 by-stop node node′ = by-answer node (stopped node′) refl
 
 received-gives-back : (node : Node) (s : ℕ) (i : Incarnation) (items : List Item) (m : Message) (step : Step)

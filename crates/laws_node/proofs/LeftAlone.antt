@@ -57,14 +57,12 @@ never : {A : Type 0} → false ≡ true → A
 never e = absurd (false≢true e)
 
 storing-not-fetching : (p : Phase) → isStoring p ≡ true → isFetching p ≡ false
-unfolding isStoring isFetching
 storing-not-fetching Down e = refl
 storing-not-fetching Fetching e = never e
 storing-not-fetching (Returning s) e = refl
 storing-not-fetching (Up s) e = refl
 
 down-not-fetching : (p : Phase) → isDown p ≡ true → isFetching p ≡ false
-unfolding isDown isFetching
 down-not-fetching Down e = refl
 down-not-fetching Fetching e = never e
 down-not-fetching (Returning s) e = refl
@@ -101,7 +99,7 @@ module _ (node : Node) where
   }
 
   gone-down : Leaves (changed Crash (node .number)) node (crashed node)
-  unfolding crashed blankNode changed among isFetching
+  unfolding crashed blankNode changed among
   gone-down = record {
     same-number = refl;
     same-size = refl;
@@ -174,7 +172,7 @@ module _ (node : Node) (s : ℕ) (i o : Incarnation) (a : Attempt) (item : Item)
   }
 
   ended : Leaves (changedBy (message.Confirmed o a item) s) node (writeEnded (withCounted node s i))
-  unfolding writeEnded withCounted changedBy rowOf isFetching
+  unfolding writeEnded withCounted changedBy rowOf
   ended = record {
     same-number = refl;
     same-size = refl;
@@ -207,7 +205,7 @@ tabled node after s o number size incarnation h = record {
 
 received-leaves : (node : Node) (s : ℕ) (i : Incarnation) (items : List Item) (m : Message) (step : Step)
     → Received node s i items m step → Leaves (changedBy m s) node (step .node)
-unfolding refused ok sendConfirm sendStore storeSuccess stopped writtenBack storingBegun crashed blankNode withTable withCounted withRows isFetching changedBy
+unfolding refused ok sendConfirm sendStore storeSuccess stopped writtenBack storingBegun crashed blankNode withTable withCounted withRows changedBy
 received-leaves node s i items m step (declines m′ why) = kept node _
 received-leaves node s i items m step (takes a item up) = taken node s _ a item
 received-leaves node s i items m step (countsStored o a item e l) = counted node s i o a item
@@ -221,7 +219,7 @@ received-leaves node s i items m step (stops o) = tabled node _ s o refl refl re
 received-leaves node s i items m step (writesBack o e c) = tabled node _ s o refl refl refl (λ g. never g)
 
 leaves : (node : Node) (d : Decision) (step : Step) → Outcome node d step → Leaves (changed d (node .number)) node (step .node)
-unfolding refused ok sendFetch sendStore written retried changed isFetching
+unfolding refused ok sendFetch sendStore written retried changed
 leaves node d step (refuses d′ why) = kept node _
 leaves node d step (writes tag e) = begun node _ _ _ (λ f g. false≢true g)
 leaves node d step fetchesAgain = kept node _

@@ -109,7 +109,7 @@ abbrev Makes : (Item → Item → Type 0) → Node → Step → Type 0
 Makes R node step = isRefused (step .answer) ≡ false → R (ownItem node) (ownItem (step .node))
 
 no-refusal : (R : Item → Item → Type 0) (node : Node) (why : Refusal) → Makes R node (refused node why)
-unfolding refused isRefused
+unfolding refused
 no-refusal R node why e = absurd (false≢true (sym e))
 
 received-item : (node : Node) (s : ℕ) (i : Incarnation) (items : List Item) (m : Message) (step : Step)

@@ -9,21 +9,18 @@ use Rattle.protocol.specs.declared.Stage.the-variants.{Idle, Storing, Confirmin
 
 module _ (P : Phase → Type 0) where
   pub fetching-cases : P Fetching → (p : Phase) → isFetching p ≡ true → P p
-  unfolding isFetching
   fetching-cases h Down e = absurd (false≢true e)
   fetching-cases h Fetching e = h
   fetching-cases h (Returning s) e = absurd (false≢true e)
   fetching-cases h (Up s) e = absurd (false≢true e)
 
   pub up-cases : ((s : Stage) → P (Up s)) → (p : Phase) → isUp p ≡ true → P p
-  unfolding isUp
   up-cases h Down e = absurd (false≢true e)
   up-cases h Fetching e = absurd (false≢true e)
   up-cases h (Returning s) e = absurd (false≢true e)
   up-cases h (Up s) e = h s
 
   pub idle-cases : ((s : Stage) → P (Up s)) → (p : Phase) → isUpIdle p ≡ true → P p
-  unfolding isUpIdle
   idle-cases h Down e = absurd (false≢true e)
   idle-cases h Fetching e = absurd (false≢true e)
   idle-cases h (Returning s) e = absurd (false≢true e)
@@ -31,34 +28,29 @@ module _ (P : Phase → Type 0) where
 
   -- neither Down nor Fetching
   pub live-cases : ((s : Stage) → P (Returning s)) → ((s : Stage) → P (Up s)) → (p : Phase) → isDown p ≡ false → isFetching p ≡ false → P p
-  unfolding isDown isFetching
   live-cases h h′ Down d e = absurd (false≢true (sym d))
   live-cases h h′ Fetching d e = absurd (false≢true (sym e))
   live-cases h h′ (Returning s) d e = h s
   live-cases h h′ (Up s) d e = h′ s
 
 storing-stage : (P : Stage → Type 0) → P Storing → (s : Stage) → isStoringStage s ≡ true → P s
-unfolding isStoringStage
 storing-stage P h Idle e = absurd (false≢true e)
 storing-stage P h Storing e = h
 storing-stage P h Confirming e = absurd (false≢true e)
 
 confirming-stage : (P : Stage → Type 0) → P Confirming → (s : Stage) → isConfirmingStage s ≡ true → P s
-unfolding isConfirmingStage
 confirming-stage P h Idle e = absurd (false≢true e)
 confirming-stage P h Storing e = absurd (false≢true e)
 confirming-stage P h Confirming e = h
 
 module _ (P : Phase → Type 0) where
   pub storing-cases : P (Returning Storing) → P (Up Storing) → (p : Phase) → isStoring p ≡ true → P p
-  unfolding isStoring
   storing-cases h h′ Down e = absurd (false≢true e)
   storing-cases h h′ Fetching e = absurd (false≢true e)
   storing-cases h h′ (Returning s) e = storing-stage (λ t. P (Returning t)) h s e
   storing-cases h h′ (Up s) e = storing-stage (λ t. P (Up t)) h′ s e
 
   pub confirming-cases : P (Returning Confirming) → P (Up Confirming) → (p : Phase) → isConfirming p ≡ true → P p
-  unfolding isConfirming
   confirming-cases h h′ Down e = absurd (false≢true e)
   confirming-cases h h′ Fetching e = absurd (false≢true e)
   confirming-cases h h′ (Returning s) e = confirming-stage (λ t. P (Returning t)) h s e

@@ -16,7 +16,7 @@ use Rattle.message.specs.declared.Message.{Message}
 use Rattle.protocol.specs.Answer.{ok, refused}
 use Rattle.protocol.specs.Fetching.{withTable, stopped}
 use Rattle.protocol.specs.Node.{half, countPeers, withRows, withCounted}
-use Rattle.protocol.specs.Phase.{isDown, isIdle, isStoring, isStoringStage, atStage}
+use Rattle.protocol.specs.Phase.{isDown, isIdle, isStoring, atStage}
 use Rattle.protocol.specs.Sound.{everyFrom, rowSound, rowUse}
 use Rattle.protocol.specs.Storing.{sendConfirm, storeSuccess}
 use Rattle.protocol.specs.Write.{sendStore, sendFetch, written, retried, nothingToRetry}
@@ -88,7 +88,7 @@ module _ (n k : ℕ) (node : Node) (S : Soundly n k node) (f : 0 < half n) (belo
   stored-rows e = rows-of row-use.Stored n (node .phase) (countPeers (node .counted)) (node .rows) e (S .rows-sound)
 
   outcome-sound : (d : Decision) (step : Step) → MayCome n k d → Outcome node d step → Soundly n k (step .node)
-  unfolding refused ok sendFetch sendStore written retried nothingToRetry isStoring isStoringStage atStage rowUse MayCome
+  unfolding refused ok sendFetch sendStore written retried nothingToRetry atStage rowUse MayCome
   outcome-sound d step come (refuses d′ why) = S
   outcome-sound d step come (writes tag e) =
       begun-sound n k node (S .number-is) (S .size-is) _ _ _ refl below f

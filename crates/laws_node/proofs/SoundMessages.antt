@@ -19,7 +19,7 @@ use Rattle.item.specs.declared.Item.{Item}
 use Rattle.protocol.specs.Fetching.{withTable, noneCounted, hasConflict, writtenBack}
 use Rattle.protocol.specs.Merge.{mergeRows, lowestMarked}
 use Rattle.protocol.specs.Node.{noPeers, half, ownItem, storedRow, peerOf, countPeers, withRow, withRows, withCounted, confirmingBegun, writeEnded}
-use Rattle.protocol.specs.Phase.{isFetching, isUp, isStoring, isConfirming, isStoringStage, isConfirmingStage, atStage}
+use Rattle.protocol.specs.Phase.{isFetching, isUp, isStoring, isConfirming, atStage}
 use Rattle.protocol.specs.Sound.{everyFrom, rowUse, rowSound, stageCounts, phaseCounts, attemptFits, countedAsked}
 use Rattle.protocol.specs.Storing.{askedUnder}
 use Rattle.protocol.specs.declared.Node.{Node}
@@ -59,7 +59,7 @@ module _ (n k : ℕ) (node : Node) (S : Soundly n k node) (s : ℕ) (l : s < n) 
     -- Stored, before the f-th
     pub stored-counted : isStoring (node .phase) ≡ true → ltb (countPeers (withCounted node s i .counted)) (half (node .n)) ≡ true
         → Soundly n k (withCounted node s i)
-    unfolding withCounted rowUse phaseCounts stageCounts countedAsked isConfirming isConfirmingStage
+    unfolding withCounted rowUse phaseCounts stageCounts countedAsked
     stored-counted e few =
         let c : ℕ = countPeers (set (node .counted) s (peerUnder i)) in
         let less : ltb c (half n) ≡ true = subst (λ (m : ℕ). ltb c (half m) ≡ true) (S .size-is) few in
@@ -83,7 +83,7 @@ module _ (n k : ℕ) (node : Node) (S : Soundly n k node) (s : ℕ) (l : s < n) 
     -- the f-th Stored: the f counted are asked
     pub asking-sound : isStoring (node .phase) ≡ true → ltb (countPeers (withCounted node s i .counted)) (half (node .n)) ≡ false → 0 < half n
         → Soundly n k (asking node s i)
-    unfolding withCounted confirmingBegun attemptFits rowUse phaseCounts stageCounts countedAsked isConfirming isConfirmingStage atStage
+    unfolding withCounted confirmingBegun attemptFits rowUse phaseCounts stageCounts countedAsked atStage
     asking-sound e full f =
         let peers : List Peer = set (node .counted) s (peerUnder i) in
         let many : ltb (countPeers peers) (half n) ≡ false = subst (λ (m : ℕ). ltb (countPeers peers) (half m) ≡ false) (S .size-is) full in
@@ -115,7 +115,7 @@ module _ (n k : ℕ) (node : Node) (S : Soundly n k node) (s : ℕ) (l : s < n) 
     -- Confirmed, before the f-th
     pub confirmed-counted : isConfirming (node .phase) ≡ true → askedUnder node s i ≡ true
         → ltb (countPeers (withCounted node s i .counted)) (half (node .n)) ≡ true → Soundly n k (withCounted node s i)
-    unfolding withCounted rowUse phaseCounts stageCounts countedAsked askedUnder isConfirming isConfirmingStage
+    unfolding withCounted rowUse phaseCounts stageCounts countedAsked askedUnder
     confirmed-counted e under few =
         let peers : List Peer = set (node .counted) s (peerUnder i) in
         let less : ltb (countPeers peers) (half n) ≡ true = subst (λ (m : ℕ). ltb (countPeers peers) (half m) ≡ true) (S .size-is) few in
@@ -143,7 +143,7 @@ module _ (n k : ℕ) (node : Node) (S : Soundly n k node) (s : ℕ) (l : s < n) 
 
     -- the f-th Confirmed: the write has ended
     pub ended-sound : isConfirming (node .phase) ≡ true → Soundly n k (writeEnded (withCounted node s i))
-    unfolding writeEnded withCounted attemptFits rowUse phaseCounts stageCounts countPeers countedAsked isConfirming isConfirmingStage
+    unfolding writeEnded withCounted attemptFits rowUse phaseCounts stageCounts countPeers countedAsked
     ended-sound e = record {
       number-is = S .number-is;
       size-is = S .size-is;
@@ -172,7 +172,7 @@ module _ (n k : ℕ) (node : Node) (S : Soundly n k node) (s : ℕ) (l : s < n) 
 
       pub table-counted : s < length (node .counted) → ltb (countPeers (withTable node s i items .counted)) (suc (half (node .n))) ≡ true
           → Soundly n k (withTable node s i items)
-      unfolding withTable withRows withCounted rowUse phaseCounts countedAsked isConfirming
+      unfolding withTable withRows withCounted rowUse phaseCounts countedAsked
       table-counted there few =
           let peers : List Peer = set (node .counted) s (peerUnder i) in
           let less : ltb (countPeers peers) (suc (half n)) ≡ true = subst (λ (m : ℕ). ltb (countPeers peers) (suc (half m)) ≡ true) (S .size-is) few in
@@ -196,7 +196,7 @@ module _ (n k : ℕ) (node : Node) (S : Soundly n k node) (s : ℕ) (l : s < n) 
       -- the (f + 1)-th, without a mark: the own item is written back
       pub back-sound : length (node .rows) ≡ maxNodes → k < n → 0 < half n → hasConflict (withTable node s i items) ≡ false
           → Soundly n k (writtenBack (withTable node s i items))
-      unfolding writtenBack withTable withRows withCounted hasConflict isStoring isStoringStage
+      unfolding writtenBack withTable withRows withCounted hasConflict
       back-sound size below f none =
           begun-sound n k (withTable node s i items) (S .number-is) (S .size-is) (Returning Storing) (record { 0 = 1 }) (ownItem (withTable node s i items))
           refl below f

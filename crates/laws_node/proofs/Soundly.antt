@@ -18,7 +18,7 @@ use Rattle.item.specs.declared.counters.Incarnation.{Incarnation}
 use Rattle.item.specs.declared.Item.{Item}
 use Rattle.item.specs.declared.Row.{Row}
 use Rattle.protocol.specs.Node.{noPeer, noPeers, half, storedRow, peerOf, countPeers, blankNode, crashed, started, storingBegun}
-use Rattle.protocol.specs.Phase.{isStoring, isConfirming, isConfirmingStage}
+use Rattle.protocol.specs.Phase.{isStoring}
 use Rattle.protocol.specs.Sound.{everyFrom, rowUse, rowSound, peerSound, stageCounts, phaseCounts, attemptFits, amongAsked, countedAsked, rowsSound, peersSound, soundNode}
 use Rattle.protocol.specs.declared.Node.{Node}
 use Rattle.protocol.specs.declared.Peer.{Peer}
@@ -122,7 +122,7 @@ among-set asked counted s i h e =
 
 module _ (n k : ℕ) (node : Node) (number : node .number ≡ k) (size : node .n ≡ n) where
   pub crashed-sound : Soundly n k (crashed node)
-  unfolding crashed blankNode attemptFits sameAttempt rowUse phaseCounts countPeers countedAsked isConfirming
+  unfolding crashed blankNode attemptFits sameAttempt rowUse phaseCounts countPeers countedAsked
   crashed-sound = record {
     number-is = number;
     size-is = size;
@@ -135,7 +135,7 @@ module _ (n k : ℕ) (node : Node) (number : node .number ≡ k) (size : node .n
   }
 
   pub started-sound : Soundly n k (started node)
-  unfolding started attemptFits sameAttempt rowUse phaseCounts countPeers countedAsked isConfirming
+  unfolding started attemptFits sameAttempt rowUse phaseCounts countPeers countedAsked
   started-sound = record {
     number-is = number;
     size-is = size;
@@ -151,7 +151,7 @@ module _ (n k : ℕ) (node : Node) (number : node .number ≡ k) (size : node .n
 
   pub begun-sound : (phase : Phase) (a : Attempt) (item : Item) → isStoring phase ≡ true → k < n → 0 < half n
       → everyFrom (rowSound row-use.Stored n) 0 (node .rows) ≡ true → Soundly n k (storingBegun node phase a item)
-  unfolding storingBegun attemptFits rowUse phaseCounts stageCounts countPeers countedAsked isConfirming isConfirmingStage
+  unfolding storingBegun attemptFits rowUse phaseCounts stageCounts countPeers countedAsked
   begun-sound phase a item e l f h = record {
     number-is = number;
     size-is = size;

@@ -54,13 +54,12 @@ unfolding refuse
 by-refuse why table store h why′ e = let d : why ≡ why′ = cc in subst (λ (w : Refusal). 4 ≤ refusalNumber w) d h
 
 no-refusal : (a : Answer) → isRefused a ≡ false → (why : Refusal) → a ≡ answer.Refused why → 4 ≤ refusalNumber why
-unfolding isRefused
 no-refusal a h why e = absurd (false≢true (sym h ∙ ap isRefused e))
 
 module _ (table : List Node) (store : List ℕ) (rs : List (List ℕ)) where
   carried-above : (numbers : List ℕ) → allAbove numbers ≡ true → (k back : ℕ) (step : Step) → RefusesBy numbers step
       → Above (carriedOut table store rs k back step)
-  unfolding carriedOut sentBy refusalNumber
+  unfolding carriedOut sentBy
   carried-above numbers a k back step h =
       by-cond Above (isRefused (step .answer)) _ _
       (λ _ why e. above numbers a (refusalNumber why) (h why e))
@@ -69,19 +68,19 @@ module _ (table : List Node) (store : List ℕ) (rs : List (List ℕ)) where
 
   at-node-above : (numbers : List ℕ) → allAbove numbers ≡ true → (decide : Node → Step) (k : ℕ) → RefusesBy numbers (decide (nodeAt table k))
       → Above (atNode decide k table store rs)
-  unfolding atNode refusalNumber
+  unfolding atNode
   at-node-above numbers a decide k h =
       by-cond Above (ltb k (groupSize rs)) _ _
       (λ _. carried-above numbers a k k (decide (nodeAt table k)) h)
       (λ _. by-refuse NoNode table store (omega arith))
 
   dropped-above : (r : ℕ) (m : Reading) → Above (dropped m r table store rs)
-  unfolding dropped isRefused refusalNumber
+  unfolding dropped
   dropped-above r Fault = by-refuse NoMessage table store (omega arith)
   dropped-above r (Found e) = no-refusal answer.Ok refl
 
   delivered-above : (r : ℕ) (m : Reading) → Above (delivered m r table store rs)
-  unfolding delivered deliverStep refusalNumber allAbove
+  unfolding delivered deliverStep allAbove
   delivered-above r Fault = by-refuse NoMessage table store (omega arith)
   delivered-above r (Found e) =
       carried-above ofMessage refl (e .addressee) (e .sender) _

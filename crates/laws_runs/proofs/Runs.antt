@@ -20,7 +20,6 @@ use Rattle.protocol.specs.Answer.{refusalNumber}
 use Rattle.operations.specs.Claim.{TagsFit}
 use Rattle.protocol.specs.Node.{blankNode, freshNode, writeEnded, countPeers}
 use Rattle.operations.specs.Operation.{Result, setUp, perform}
-use Rattle.protocol.specs.Phase.{isConfirming, isConfirmingStage}
 use Rattle.protocol.specs.Call.{Call}
 use Rattle.operations.specs.Run.{callOf, calls, left}
 use Rattle.protocol.specs.Sound.{everyFrom, rowUse, rowSound, attemptFits, phaseCounts, stageCounts, countedAsked, soundNode}
@@ -46,7 +45,7 @@ use Rattle.laws_runs.proofs.Numbers.{Above, on-sound-above}
 -- ---- set-up
 
 fresh-node : (n k : ℕ) → soundNode n k (freshNode k n) ≡ true
-unfolding freshNode writeEnded blankNode attemptFits rowUse phaseCounts stageCounts countPeers countedAsked isConfirming isConfirmingStage
+unfolding freshNode writeEnded blankNode attemptFits rowUse phaseCounts stageCounts countPeers countedAsked
 fresh-node n k =
     is-sound n k _ (record {
       number-is = refl;

@@ -17,7 +17,7 @@ use Rattle.protocol.specs.declared.Peer.{Peer}
 use Rattle.protocol.specs.declared.Phase.{Phase}
 use Rattle.protocol.specs.declared.RowUse.the-variants.{Stored}
 use Rattle.protocol.specs.Node.{half, countPeers}
-use Rattle.protocol.specs.Phase.{isUpIdle, isConfirming, isConfirmingStage}
+use Rattle.protocol.specs.Phase.{isUpIdle}
 use Rattle.protocol.proofs.Phases.{up-idle-is}
 use Rattle.protocol.specs.Sound.{everyFrom, rowUse, rowFits, rowSound, rowsSound, peerSound, peersSound, stageCounts, phaseCounts, attemptFits, countedAsked, soundNode}
 use Rattle.node_sound.specs.Rest.{unmarked, absent, atRest, numbersZero, unusedRowZero, unusedZero}
@@ -89,7 +89,7 @@ module _ (phase : Phase) (idle : isUpIdle phase ≡ true) where
   counts-nobody f = rw (up-idle-is phase idle, eq-eqb 0 0 refl)
 
   asks-nobody : (counted asked : List Peer) → countedAsked phase counted asked ≡ true
-  unfolding countedAsked isConfirming isConfirmingStage
+  unfolding countedAsked
   asks-nobody counted asked = rw (up-idle-is phase idle)
 
 -- ---- the node

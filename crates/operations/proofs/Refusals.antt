@@ -45,14 +45,14 @@ module _ (numbers : List ℕ) (table : List Node) (store : List ℕ) where
 
   -- a result that is no refusal
   by-answer : (r : Result) → isRefused (r .answer) ≡ false → IfRefused numbers table store r
-  unfolding isRefused IfRefused
+  unfolding IfRefused
   by-answer r h why e = absurd (false≢true (sym h ∙ ap isRefused e))
 
   -- a decision carried out, where 7 is listed or nothing is sent
   carried-refused : (rs : List (List ℕ)) (k back : ℕ) (step : Step) → RefusesBy numbers step
       → (ltb (freeCount rs) (countOutgoing (outgoing (step .node) (step .sends) back)) ≡ true → List·Memᴰ 7 numbers)
       → IfRefused numbers table store (carriedOut table store rs k back step)
-  unfolding carriedOut sentBy IfRefused refusalNumber
+  unfolding carriedOut sentBy IfRefused
   carried-refused rs k back step h room =
       by-cond (IfRefused numbers table store) (isRefused (step .answer)) _ _
       (λ _ why e. record { same-table = refl; same-store = refl; is-listed = h why e })
@@ -62,7 +62,7 @@ module _ (numbers : List ℕ) (table : List Node) (store : List ℕ) where
   at-node-refused : (decide : Node → Step) (k : ℕ) (rs : List (List ℕ)) → List·Memᴰ 4 numbers → RefusesBy numbers (decide (nodeAt table k))
       → (ltb (freeCount rs) (countOutgoing (outgoing (decide (nodeAt table k) .node) (decide (nodeAt table k) .sends) k)) ≡ true → List·Memᴰ 7 numbers)
       → IfRefused numbers table store (atNode decide k table store rs)
-  unfolding atNode refusalNumber
+  unfolding atNode
   at-node-refused decide k rs four h room =
       by-cond (IfRefused numbers table store) (ltb k (groupSize rs)) _ _
       (λ _. carried-refused rs k k (decide (nodeAt table k)) h room)
@@ -94,12 +94,12 @@ crash-room rs node back P e =
 
 module _ (table : List Node) (store : List ℕ) (rs : List (List ℕ)) where
   dropped-refused : (r : ℕ) (m : Reading) → IfRefused (refusalsOf (event.Drop r)) table store (dropped m r table store rs)
-  unfolding dropped isRefused refusalNumber refusalsOf
+  unfolding dropped refusalsOf
   dropped-refused r Fault = by-refuse _ table store NoMessage (found _ _ refl)
   dropped-refused r (Found e) = by-answer _ table store _ refl
 
   delivered-refused : (r : ℕ) (m : Reading) → IfRefused (refusalsOf (event.Deliver r)) table store (delivered m r table store rs)
-  unfolding delivered deliverStep refusalNumber refusalsOf
+  unfolding delivered deliverStep refusalsOf
   delivered-refused r Fault = by-refuse _ table store NoMessage (found _ _ refl)
   delivered-refused r (Found e) =
       let step : Step = onMessage (e .message) (nodeAt table (e .addressee)) (e .sender) (e .incarnation) (rowsOf (recordIn rs r)) in
@@ -139,7 +139,7 @@ two-three (event.Drop r) = (found _ _ refl, found _ _ refl)
 two-three (event.Deliver r) = (found _ _ refl, found _ _ refl)
 
 perform-refused : (e : Event) (table : List Node) (store : List ℕ) → IfRefused (refusalsOf e) table store (perform e table store)
-unfolding perform onRecords refusalNumber
+unfolding perform onRecords
 perform-refused e table store =
     by-cond (IfRefused (refusalsOf e) table store) (rightLength store) _ _
     (λ _. by-cond (IfRefused (refusalsOf e) table store) (soundRecords (recordsOf store) && soundTable (groupSize (recordsOf store)) table) _ _
@@ -148,7 +148,7 @@ perform-refused e table store =
     (λ _. by-refuse (refusalsOf e) table store StoreLength (two-three e .0))
 
 set-up-refused : (n : ℕ) (table : List Node) (store : List ℕ) → IfRefused setUpRefusals table store (setUp n table store)
-unfolding setUp isRefused refusalNumber setUpRefusals
+unfolding setUp setUpRefusals
 set-up-refused n table store =
     by-cond (IfRefused setUpRefusals table store) (validSize n && eqb (length table) n) _ _
     (λ _. by-cond (IfRefused setUpRefusals table store) (rightLength store) _ _

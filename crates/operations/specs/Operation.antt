@@ -15,7 +15,7 @@ use Rattle.store.specs.Records.{recordCount, rightLength, recordsOf, joined, re
 use Rattle.store.specs.Head.{groupSize}
 use Rattle.store.specs.Sound.{soundRecords, freeCount, messageIn}
 use Rattle.store.specs.Change.{putEach, countOutgoing, dropIn, emptyRecords}
-unfoldable pub use Rattle.protocol.specs.Answer.{isRefused}
+pub use Rattle.protocol.specs.Answer.{isRefused}
 unfoldable pub use Rattle.protocol.specs.Node.{rowItems}
 use Rattle.protocol.specs.Deliver.{deliverStep}
 use Rattle.protocol.specs.Outgoing.{outgoing}

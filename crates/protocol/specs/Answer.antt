@@ -12,7 +12,7 @@ use Rattle.protocol.specs.declared.Sends.the-variants as sends
 use Rattle.protocol.specs.declared.Step.{Step}
 
 -- the number that document 01 and the drill print
-unfoldable pub refusalNumber : Refusal → ℕ
+abbrev pub refusalNumber : Refusal → ℕ
 refusalNumber GroupSize = 1
 refusalNumber StoreLength = 2
 refusalNumber Unsound = 3
@@ -51,7 +51,7 @@ refused node why = record { answer = answer.Refused why; node = node; sends = se
 unfoldable pub ok : Node → Sends → Step
 ok node sends = record { answer = answer.Ok; node = node; sends = sends }
 
-unfoldable pub isRefused : Answer → Bool
+abbrev pub isRefused : Answer → Bool
 isRefused answer.Ok = false
 isRefused (answer.Settled item) = false
 isRefused (answer.Accepted item) = false

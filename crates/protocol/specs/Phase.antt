@@ -5,69 +5,69 @@ use Rattle.protocol.specs.declared.Phase.the-variants.{Down, Fetching, R
 use Rattle.protocol.specs.declared.Stage.{Stage}
 use Rattle.protocol.specs.declared.Stage.the-variants.{Idle, Storing, Confirming}
 
-unfoldable pub isDown : Phase → Bool
+abbrev pub isDown : Phase → Bool
 isDown Down = true
 isDown Fetching = false
 isDown (Returning stage) = false
 isDown (Up stage) = false
 
-unfoldable pub isFetching : Phase → Bool
+abbrev pub isFetching : Phase → Bool
 isFetching Down = false
 isFetching Fetching = true
 isFetching (Returning stage) = false
 isFetching (Up stage) = false
 
 -- "at Up": in any stage of its own write
-unfoldable pub isUp : Phase → Bool
+abbrev pub isUp : Phase → Bool
 isUp Down = false
 isUp Fetching = false
 isUp (Returning stage) = false
 isUp (Up stage) = true
 
-unfoldable pub isIdleStage : Stage → Bool
+abbrev pub isIdleStage : Stage → Bool
 isIdleStage Idle = true
 isIdleStage Storing = false
 isIdleStage Confirming = false
 
-unfoldable pub isStoringStage : Stage → Bool
+abbrev pub isStoringStage : Stage → Bool
 isStoringStage Idle = false
 isStoringStage Storing = true
 isStoringStage Confirming = false
 
-unfoldable pub isConfirmingStage : Stage → Bool
+abbrev pub isConfirmingStage : Stage → Bool
 isConfirmingStage Idle = false
 isConfirmingStage Storing = false
 isConfirmingStage Confirming = true
 
 -- "Up and Idle"
-unfoldable pub isUpIdle : Phase → Bool
+abbrev pub isUpIdle : Phase → Bool
 isUpIdle Down = false
 isUpIdle Fetching = false
 isUpIdle (Returning stage) = false
 isUpIdle (Up stage) = isIdleStage stage
 
 -- "Idle", when Returning or Up
-unfoldable pub isIdle : Phase → Bool
+abbrev pub isIdle : Phase → Bool
 isIdle Down = false
 isIdle Fetching = false
 isIdle (Returning stage) = isIdleStage stage
 isIdle (Up stage) = isIdleStage stage
 
 -- "Storing", when Returning or Up
-unfoldable pub isStoring : Phase → Bool
+abbrev pub isStoring : Phase → Bool
 isStoring Down = false
 isStoring Fetching = false
 isStoring (Returning stage) = isStoringStage stage
 isStoring (Up stage) = isStoringStage stage
 
 -- "Confirming", when Returning or Up
-unfoldable pub isConfirming : Phase → Bool
+abbrev pub isConfirming : Phase → Bool
 isConfirming Down = false
 isConfirming Fetching = false
 isConfirming (Returning stage) = isConfirmingStage stage
 isConfirming (Up stage) = isConfirmingStage stage
 
-unfoldable pub isReturning : Phase → Bool
+abbrev pub isReturning : Phase → Bool
 isReturning Down = false
 isReturning Fetching = false
 isReturning (Returning stage) = true

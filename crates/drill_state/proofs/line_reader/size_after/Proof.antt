@@ -1,5 +1,4 @@
 -- `drill_state::line_reader::size_after` by the answer's cases.
-use Rattle.protocol.specs.Answer.{isRefused}
 use Rattle.drill_state.specs.Turn.{sizeAfter}
 use borrow.Author.Needs.{needs}
 use Rattle.drill_state.proofs.line_reader.size_after.Statement.{statement}
@@ -21,23 +20,23 @@ enum-told-5 : tie.Need-enum-told-5
 enum-told-5 c = search needs
 
 returns : tie.Need-returns
-unfolding sizeAfter isRefused
+unfolding sizeAfter
 returns c = rw (c .enum-told .given .1)
 
 returns-2 : tie.Need-returns-2
-unfolding sizeAfter isRefused
+unfolding sizeAfter
 returns-2 c = rw (c .enum-told2 .given .1)
 
 returns-3 : tie.Need-returns-3
-unfolding sizeAfter isRefused
+unfolding sizeAfter
 returns-3 c = rw (c .enum-told3 .given .1)
 
 returns-4 : tie.Need-returns-4
-unfolding sizeAfter isRefused
+unfolding sizeAfter
 returns-4 c = rw (c .enum-told4 .given .1)
 
 returns-5 : tie.Need-returns-5
-unfolding sizeAfter isRefused
+unfolding sizeAfter
 returns-5 c = rw (c .enum-told5 .given .1)
 
 pub size-after-spec : {M : Type 1} → statement M
