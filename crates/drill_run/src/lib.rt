@@ -1,5 +1,4 @@
 // A piece of a script run over lent nodes and store.
-mod answer;
 mod lines;
 
 use drill_state::Drill;

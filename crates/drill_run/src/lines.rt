@@ -1,7 +1,8 @@
 // What the lines of a piece of a drill's script ask of the group, carried out one by one over lent nodes and a lent store.
 // It decides nothing.
-use crate::answer::answer_line;
 use drill_state::Position;
+use drill_state::next_line;
+use on_first_nodes::operate_first;
 use protocol::Node;
 ghost use mathlib.Core.Path.{_≡_};
 ghost use mathlib.Core.Bool.{false};
@@ -19,7 +20,8 @@ pub fn take_lines(
 {
     let mut position = first;
     while position.asks {
-        position = answer_line(piece, position, nodes, store, out);
+        let answer = operate_first(nodes, store, position.asked);
+        position = next_line(piece, position, answer, out);
     }
     position
 }
