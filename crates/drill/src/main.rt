@@ -29,27 +29,22 @@ fn take_piece(piece: &[u8], start: Progress, store: &mut [u8], out: &mut [u8]) -
 
 // Reads the script block by block to its end. A proved loop has to end, and nothing says that the input does, so the
 // blocks are counted down from the largest number there is.
-fn run(block: &mut [u8], store: &mut [u8], out: &mut [u8]) -> Progress {
-    let mut progress = Progress::start();
-    let mut left = u64::MAX;
-    while 0 < left {
-        let got = libc::read(STDIN_FILENO, block);
-        let n = io::count(got, block);
-        if n == 0 {
-            break;
-        }
-        let next = take_piece(&block[..n], progress, store, out);
-        progress = next;
-        left -= 1;
-    }
-    progress
-}
-
 fn main() {
     let mut room = [0u8; STORE_ROOM];
     let mut block = io::large_buffer();
     let mut out = io::large_buffer();
-    let last = run(&mut block, &mut room[..store::LENGTH], &mut out);
-    let at = finish(last, &mut out);
+    let mut progress = Progress::start();
+    let mut left = u64::MAX;
+    while 0 < left {
+        let got = libc::read(STDIN_FILENO, &mut block);
+        let n = io::count(got, &block);
+        if n == 0 {
+            break;
+        }
+        let next = take_piece(&block[..n], progress, &mut room[..store::LENGTH], &mut out);
+        progress = next;
+        left -= 1;
+    }
+    let at = finish(progress, &mut out);
     io::write_all(STDOUT_FILENO, &out[..at]);
 }

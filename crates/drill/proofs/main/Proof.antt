@@ -1,60 +1,117 @@
--- `main` is safe: what `finish` printed stands within `out`.
-use mathlib.Core.Path.{sym}
-use lib.Seq.{length-take-le}
+-- `main` is safe and ends: the blocks are counted down, the arrays keep their lengths, and what `finish` printed stands within `out`.
+use Prim.Native.Nat.{ℕ, _≤_}
+use native.Mathlib.Omega.{arith}
+use mathlib.Core.Path.{_≡_, sym, _∙_}
+use lib.ListN.{length, length-replicate}
+use lib.Seq.{length-front, length-take-le}
 use borrow.Author.Needs.{needs}
 use Rattle.drill.proofs.main.Statement.{statement}
 use Rattle.drill.proofs.main.Tie as tie
 
-large-buffer-requires : tie.Need-large-buffer-requires
+-- room is the store's 65280 bytes and eight more, block and out are large buffers of `io`
+abbrev Inv-loop : tie.InvT-loop
+Inv-loop room₀ block₀ out₀ progress₀ left₀ room block out progress left = (length room ≡ 65288) × ((length block ≡ 65536) × (length out ≡ 65536))
+
+abbrev μ-loop : tie.MeasureT-loop
+μ-loop room₀ block₀ out₀ progress₀ left₀ room block out progress left = left
+
+large-buffer-requires : tie.Need-large-buffer-requires Inv-loop μ-loop
 large-buffer-requires c κs = search needs
 
-large-buffer-requires-2 : tie.Need-large-buffer-requires-2
+large-buffer-requires-2 : tie.Need-large-buffer-requires-2 Inv-loop μ-loop
 large-buffer-requires-2 c κs = search needs
 
-slice-aggregate-run : tie.Need-slice-aggregate-run
-slice-aggregate-run c = search needs
+start-requires : tie.Need-start-requires Inv-loop μ-loop
+start-requires c κs = search needs
 
-array-borrow-prefix-room : tie.Need-array-borrow-prefix-room
+loop-holds : tie.Need-loop-holds Inv-loop μ-loop
+loop-holds c = (length-replicate {A = ℕ} 65288 0, (sym (c .before .before .large-buffer .ensures), sym (c .before .large-buffer2 .ensures)))
+
+slice-aggregate-read : tie.Need-slice-aggregate-read Inv-loop μ-loop
+slice-aggregate-read c = search needs
+
+read-requires : tie.Need-read-requires Inv-loop μ-loop
+read-requires c κs = search needs
+
+slice-aggregate-count : tie.Need-slice-aggregate-count Inv-loop μ-loop
+slice-aggregate-count c = search needs
+
+count-requires : tie.Need-count-requires Inv-loop μ-loop
+count-requires c κs = search needs
+
+array-share-prefix-block : tie.Need-array-share-prefix-block Inv-loop μ-loop
+array-share-prefix-block c = search needs
+
+slice-aggregate-take-piece : tie.Need-slice-aggregate-take-piece Inv-loop μ-loop
+slice-aggregate-take-piece c = search needs
+
+array-borrow-prefix-room : tie.Need-array-borrow-prefix-room Inv-loop μ-loop
 array-borrow-prefix-room c = search needs
 
-slice-aggregate-run-2 : tie.Need-slice-aggregate-run-2
-slice-aggregate-run-2 c = search needs
+slice-aggregate-take-piece-2 : tie.Need-slice-aggregate-take-piece-2 Inv-loop μ-loop
+slice-aggregate-take-piece-2 c =
+    let l = c .before .before .before .before .before .before .before .before .before .loop in
+    let within : 65280 ≤ length (l .room) = omega (arith, l .inv .0) in
+    sym (length-take-le {A = ℕ} 65280 (l .room) within)
 
-slice-aggregate-run-3 : tie.Need-slice-aggregate-run-3
-slice-aggregate-run-3 c = search needs
+slice-aggregate-take-piece-3 : tie.Need-slice-aggregate-take-piece-3 Inv-loop μ-loop
+slice-aggregate-take-piece-3 c = search needs
 
-run-requires : tie.Need-run-requires
-run-requires c κs = search needs
+take-piece-requires : tie.Need-take-piece-requires Inv-loop μ-loop
+take-piece-requires c κs = search needs
 
-slice-aggregate-finish : tie.Need-slice-aggregate-finish
+sub-left : tie.Need-sub-left Inv-loop μ-loop
+sub-left c = search needs
+
+loop-less : tie.Need-loop-less Inv-loop μ-loop
+loop-less c = omega (arith, c .before .before .before .before .before .before .before .before .before .before .before .before .loop-test .taken)
+
+loop-again : tie.Need-loop-again Inv-loop μ-loop
+loop-again c =
+    let l = c .before .before .before .before .before .before .before .before .before .before .before .before .before .loop in
+    (length-front (l .room) (c .before .before .take-piece .last .1 .1 .0) 65280 (c .before .room2 .given) ∙ l .inv .0, (c .before .before .before .before .before .before .before .before .before .block2 .given, c .out2 .given))
+
+slice-aggregate-finish : tie.Need-slice-aggregate-finish Inv-loop μ-loop
 slice-aggregate-finish c = search needs
 
-finish-requires : tie.Need-finish-requires
+finish-requires : tie.Need-finish-requires Inv-loop μ-loop
 finish-requires c κs = search needs
 
-array-share-prefix-out : tie.Need-array-share-prefix-out
+array-share-prefix-out : tie.Need-array-share-prefix-out Inv-loop μ-loop
 array-share-prefix-out c = search needs
 
-slice-aggregate-write-all : tie.Need-slice-aggregate-write-all
+slice-aggregate-write-all : tie.Need-slice-aggregate-write-all Inv-loop μ-loop
 slice-aggregate-write-all c = sym (length-take-le _ _ (c .before .before .finish .ensures .0))
 
-write-all-requires : tie.Need-write-all-requires
+write-all-requires : tie.Need-write-all-requires Inv-loop μ-loop
 write-all-requires c κs = search needs
 
-returns : tie.Need-returns
+returns : tie.Need-returns Inv-loop μ-loop
 returns c = search needs
 
 pub main-spec : {M : Type 1} → statement M
 main-spec =
     tie.close
     (tie.spec
+    Inv-loop
+    μ-loop
     large-buffer-requires
     large-buffer-requires-2
-    slice-aggregate-run
+    start-requires
+    loop-holds
+    slice-aggregate-read
+    read-requires
+    slice-aggregate-count
+    count-requires
+    array-share-prefix-block
+    slice-aggregate-take-piece
     array-borrow-prefix-room
-    slice-aggregate-run-2
-    slice-aggregate-run-3
-    run-requires
+    slice-aggregate-take-piece-2
+    slice-aggregate-take-piece-3
+    take-piece-requires
+    sub-left
+    loop-less
+    loop-again
     slice-aggregate-finish
     finish-requires
     array-share-prefix-out
