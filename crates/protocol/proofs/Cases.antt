@@ -13,7 +13,7 @@ use Rattle.item.specs.declared.Item.{Item}
 use Rattle.item.specs.declared.Tag.{Tag}
 use Rattle.message.specs.declared.Message.the-variants as message
 use Rattle.protocol.specs.Answer.{ok, refused, isRefused}
-use Rattle.protocol.specs.Fetching.{onFetch, withTable, hasConflict, stopped, writtenBack, nodeRecover, tableCounted, onTable}
+use Rattle.protocol.specs.Fetching.{answersFetch, onFetch, withTable, hasConflict, stopped, writtenBack, nodeRecover, tableCounted, onTable}
 use Rattle.protocol.specs.Node.{rowOf, storedRow, crashed, started, withRow, withCounted, confirmingBegun, belowHalf, atMostHalf, ownIncarnation}
 use Rattle.protocol.specs.Phase.{isDown, isFetching, isUp, isUpIdle, isStoring, isConfirming, atStage}
 use Rattle.protocol.specs.Storing.{storeVerdict, replyStore, onStore, ownWrite, isCounted, sendConfirm, storedCounted, onStored, storedUnder, onConfirm, askedUnder, storeSuccess, confirmedCounted, onConfirmed}
@@ -123,7 +123,7 @@ module _ (P : Step → Type 0) (node : Node) (refusal : (why : Refusal) → P (r
   pub fetch-cases : (incarnation : Incarnation) → (isUp (node .phase) ≡ true → P (ok node (sends.Back (message.Table incarnation))))
       → P (onFetch node incarnation)
   unfolding onFetch
-  fetch-cases incarnation h = by-cond P (isUp (node .phase)) _ _ h (λ e. refusal NotTaken)
+  fetch-cases incarnation h = by-cond P (answersFetch node) _ _ h (λ e. refusal NotTaken)
 
   -- Table: counted, and with the (f + 1)-th the node stops or writes back
   pub table-cases : (sender : ℕ) (incarnation other : Incarnation) (items : List Item)

@@ -66,7 +66,7 @@ ended-shaped node s = record { rows-length = s .rows-length; counted-length = re
 pub table-shaped : (node : Node) (i : ℕ) (incarnation : Incarnation) (items : List Item) → Shaped node → Shaped (withTable node i incarnation items)
 unfolding withTable withRows
 table-shaped node i incarnation items s = counted-shaped _ i incarnation (record {
-  rows-length = merged-length (noneCounted node) (node .rows) items ∙ s .rows-length;
+  rows-length = merged-length (noneCounted node) (node .rows) _ ∙ s .rows-length;
   counted-length = s .counted-length;
   asked-length = s .asked-length;
 })

@@ -21,10 +21,14 @@ use Rattle.protocol.specs.declared.Sends.the-variants as sends
 use Rattle.protocol.specs.declared.Stage.the-variants.{Storing}
 use Rattle.protocol.specs.declared.Step.{Step}
 
+-- "Fetch, at Up"
+abbrev pub answersFetch : Node → Bool
+answersFetch node = isUp (node .phase)
+
 -- send_recover_resp: "Fetch, at Up: Table with all rows."
 unfoldable pub onFetch : Node → Incarnation → Step
 onFetch node incarnation =
-    cond (isUp (node .phase)) (ok node (sends.Back (message.Table incarnation))) (refused node NotTaken)
+    cond (answersFetch node) (ok node (sends.Back (message.Table incarnation))) (refused node NotTaken)
 
 -- no table is counted yet
 unfoldable pub noneCounted : Node → Bool
