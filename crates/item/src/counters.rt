@@ -1,6 +1,6 @@
 // The three counters, and every comparison of them that the layers above use: nobody above compares their numbers by hand.
 ghost use mathlib.Core.Path.{_≡_};
-ghost use Rattle.item.specs.Counter.{indexBelow, indexAtLargest, nextIndex, sameIncarnation, incarnationAtLargest, nextIncarnation, sameAttempt, attemptAtLargest, nextAttempt, earlier};
+ghost use Rattle.item.specs.Counter.{indexAtLargest, nextIndex, sameIncarnation, incarnationAtLargest, nextIncarnation, sameAttempt, attemptAtLargest, nextAttempt, earlier};
 
 // The number of a write. An index, an incarnation and an attempt are separate counters.
 pub struct Index(pub u64);
@@ -13,13 +13,6 @@ pub struct Attempt(pub u32);
 
 impl Index {
     pub const LARGEST: u64 = 18446744073709551615;
-
-    // Whether this index is below the index.
-    pub fn below(self, index: Index) -> bool
-        ensures { λ r. ⌜ r ≡ indexBelow self index ⌝ }
-    {
-        self.0 < index.0
-    }
 
     // Whether no index is above this one.
     pub fn at_largest(self) -> bool

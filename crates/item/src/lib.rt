@@ -50,7 +50,7 @@ impl Tag {
     pub const SIZE: usize = 8;
 
     // Whether the two tags are equal.
-    pub fn agrees(self, tag: Tag) -> bool
+    fn agrees(self, tag: Tag) -> bool
         ensures { λ r. ⌜ r ≡ tagsAgree self tag ⌝ }
     {
         self.0 == tag.0
@@ -72,7 +72,7 @@ impl Item {
     pub fn ranks_below(self, item: Item) -> bool
         ensures { λ r. ⌜ r ≡ ranksBelow self item ⌝ }
     {
-        self.index.below(item.index)
+        self.index.0 < item.index.0
     }
 
     // Whether the two items are equal, tags included.

@@ -24,7 +24,7 @@ ghost use mathlib.Core.Path.{_≡_};
 ghost use Rattle.protocol.specs.Node.{rowOf, ownItem};
 
 // The row of node i; past the last row, the zero row.
-pub fn row_of(node: Node, i: usize) -> Row
+fn row_of(node: Node, i: usize) -> Row
     ensures { λ r. ⌜ r ≡ rowOf node i ⌝ }
 {
     if Node::MAX_ROWS <= i {

@@ -37,7 +37,7 @@ pub enum TagField {
 }
 
 // What the line asks for: a letter, a space, and the numbers that the letter takes, separated by one space.
-pub fn read_line(s: &[u8]) -> Line
+fn read_line(s: &[u8]) -> Line
     ensures { λ r. ⌜ r ≡ lineOf (now (s .entry)) ⌝ }
 {
     if s.len() < 2 {
