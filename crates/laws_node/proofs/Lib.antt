@@ -9,3 +9,4 @@ pub mod SoundRows
 pub mod Soundly
 pub mod SoundMessages
 pub mod Sound
+mod Tables

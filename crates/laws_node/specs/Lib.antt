@@ -2,3 +2,4 @@ pub mod Decision
 pub mod Fields
 pub mod OwnItem
 pub mod Laws
+pub mod Tables

@@ -9,6 +9,7 @@ ghost use Rattle.laws_node.specs.Laws.{
   OwnItemOnlyWritten,
   SoundStaysSound,
 };
+ghost use Rattle.laws_node.specs.Tables.{TablesMerged};
 
 // A refused decision gives back the same node and sends nothing.
 pub fn refused_gives_back()
@@ -38,4 +39,9 @@ pub fn own_item_only_written()
 // A sound node stays sound, whatever it decides.
 pub fn sound_stays_sound()
     ensures { λ r. ⌜ SoundStaysSound ⌝ }
+{}
+
+// After any tables each row is the greatest index that came, with its first tag, marked exactly if it came with two.
+pub fn tables_merged()
+    ensures { λ r. ⌜ TablesMerged ⌝ }
 {}

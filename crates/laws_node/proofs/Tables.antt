@@ -1,69 +1,19 @@
--- What a row is after any tables, in the order in which they were counted (document 01: "the first table is taken whole,
--- and later a row is marked while its greatest index has come with two tags (the first tag is kept)"). `cameRow` says it
--- of the whole list of the items that came for the row, with no merge; `merged-came` shows that the merge gives it.
-use Prim.Native.Nat.{ℕ, zero, suc, max, _<_}
+-- The merge of tables gives what came: an induction on the tables, one item more at the end.
+use Prim.Native.Nat.{ℕ, max, _<_}
 use mathlib.Core.Path.{_≡_, refl, sym, _∙_}
 use mathlib.Core.Bool.{Bool, true, false, cond, not, _&&_, _||_, or-false, or-true, or-assoc, true≢false, false≢true}
 use mathlib.Core.List.{List, [], _∷_, _++_, append-assoc, append-nil}
 use native.Mathlib.Omega.{arith}
 use lib.Dec.{ltb, eqb}
-use lib.ListN.{length, getD}
 use borrow.Author.Tests.{lt-ltb, le-ltb, eq-eqb, ne-eqb, ltb-true, ltb-false}
 use Rattle.item.specs.Counter.{indexBelow}
-use Rattle.item.specs.Item.{zeroItem, ranksBelow, sameItem, tagsAgree}
+use Rattle.item.specs.Item.{ranksBelow, sameItem, tagsAgree}
 use Rattle.item.specs.Row.{zeroRow}
 use Rattle.item.specs.declared.Item.{Item}
 use Rattle.item.specs.declared.Row.{Row}
 use Rattle.item.specs.declared.Tag.{Tag}
-use Rattle.protocol.specs.Merge.{mergeRow, mergeRows, markedRow}
-
--- an item's index as a number
-abbrev pub rank : Item → ℕ
-rank item = item .index .0
-
--- the greatest index that came
-unfoldable pub topRank : List Item → ℕ
-topRank [] = zero
-topRank (item ∷ items) = max (rank item) (topRank items)
-
--- whether this index came
-unfoldable pub came : ℕ → List Item → Bool
-came i [] = false
-came i (item ∷ items) = eqb (rank item) i || came i items
-
--- the tag that first came with this index
-unfoldable pub firstTag : ℕ → List Item → Tag
-firstTag i [] = record { 0 = 0 }
-firstTag i (item ∷ items) = cond (eqb (rank item) i) (item .tag) (firstTag i items)
-
--- whether this index came with a tag other than this one
-unfoldable pub otherTag : ℕ → Tag → List Item → Bool
-otherTag i tag [] = false
-otherTag i tag (item ∷ items) = (eqb (rank item) i && not (tagsAgree (item .tag) tag)) || otherTag i tag items
-
--- whether this index came with two tags
-unfoldable pub twoTags : ℕ → List Item → Bool
-twoTags i items = otherTag i (firstTag i items) items
-
--- the row for which these items came: the greatest index, the tag that first came with it, and the mark of two tags
-unfoldable pub cameRow : List Item → Row
-cameRow items =
-    record {
-      item = record { index = record { 0 = topRank items }; tag = firstTag (topRank items) items };
-      incarnation = record { 0 = 0 };
-      attempt = record { 0 = 0 };
-      marked = twoTags (topRank items) items;
-    }
-
--- a row after further tables, one after the other
-unfoldable pub mergedOnto : Row → List Item → Row
-mergedOnto row [] = row
-mergedOnto row (item ∷ items) = mergedOnto (mergeRow false row item) items
-
--- a row after these tables, the first of them taken whole
-unfoldable pub mergedRow : List Item → Row
-mergedRow [] = zeroRow
-mergedRow (item ∷ items) = mergedOnto (mergeRow true zeroRow item) items
+use Rattle.protocol.specs.Merge.{mergeRow, markedRow}
+use Rattle.laws_node.specs.Tables.{rank, topRank, came, firstTag, otherTag, twoTags, cameRow, mergedOnto, mergedRow, TablesMerged}
 
 -- a proof by cases on a test
 by-cases : {A : Type 0} (b : Bool) → (b ≡ true → A) → (b ≡ false → A) → A
@@ -208,18 +158,11 @@ nothing-came : zeroRow ≡ cameRow []
 unfolding cameRow twoTags topRank firstTag otherTag
 nothing-came = refl
 
--- after any tables, each row is the greatest index that came, with the tag that first came with it, and is marked exactly
--- if that index came with two tags
 pub merged-came : (items : List Item) → mergedRow items ≡ cameRow items
 unfolding mergedRow
 merged-came [] = nothing-came
 merged-came (x ∷ items) = rw merge-first (merged-onto x [] items)
 
--- the merge of whole tables goes row by row
-pub row-merged : (first : Bool) (rows : List Row) (items : List Item) (k : ℕ) → k < length rows → k < length items
-    → getD (mergeRows first rows items) k zeroRow ≡ mergeRow first (getD rows k zeroRow) (getD items k zeroItem)
-unfolding mergeRows
-row-merged first [] items k h l = absurd (omega arith)
-row-merged first (row ∷ rows) [] k h l = absurd (omega arith)
-row-merged first (row ∷ rows) (item ∷ items) zero h l = refl
-row-merged first (row ∷ rows) (item ∷ items) (suc k) h l = row-merged first rows items k (omega arith) (omega arith)
+pub tables-merged : TablesMerged
+unfolding TablesMerged
+tables-merged = merged-came
