@@ -10,8 +10,9 @@ use lib.ListN.{getD, drop}
 use borrow.Author.Tests.{eq-eqb, ne-eqb}
 use Rattle.store_laws.proofs.Drop.{DropDone, drop-done}
 use Rattle.store_laws.specs.Lists.{freeList, inboxList, times, without}
+use Rattle.store_laws.specs.Standing.{OnChains}
 use Rattle.store_laws.proofs.Message.{MessageTo, inbox-message, message-free, message-head}
-use Rattle.store_laws.proofs.OnChains.{OnChains, sound-chains}
+use Rattle.store_laws.proofs.OnChains.{sound-chains}
 use Rattle.store_laws.proofs.Put.{ForGroup, PutDone, put-done, some-free}
 use Rattle.store_laws.proofs.PutEach.{AllForGroup}
 use Rattle.store_laws.proofs.Relinked.{inbox-once, inbox-only}

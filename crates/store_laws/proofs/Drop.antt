@@ -20,9 +20,10 @@ use Rattle.store.proofs.Bytes.{Alike, alike-read, alike-rows, alike-zero, clear
 use Rattle.store.proofs.Joined.{Sized}
 use Rattle.store.proofs.Locality.{Local, set-same, set-other, local-alike, unlinked-local, drop-local}
 use Rattle.store_laws.specs.Lists.{times, without, freeList, inboxList}
+use Rattle.store_laws.specs.Standing.{Leads, IsChain, OnChains}
 use Rattle.store_laws.proofs.Times.{by-same, times-append, times-head, stands-head, stands-cases, changed, changed-at, changed-other, Split, split-at}
-use Rattle.store_laws.proofs.Leads.{Leads, IsChain, leads-same, starts-below}
-use Rattle.store_laws.proofs.OnChains.{OnChains, free-is, inbox-is, sound-chains, sound-valid, sound-head, chains-sound, free-count}
+use Rattle.store_laws.proofs.Leads.{leads-same, starts-below}
+use Rattle.store_laws.proofs.OnChains.{free-is, inbox-is, sound-chains, sound-valid, sound-head, chains-sound, free-count}
 use Rattle.store_laws.proofs.Message.{message-read, message-head}
 use Rattle.store_laws.proofs.Links.{Small, same-first, same-head, free-set, free-first, free-head}
 use Rattle.store_laws.proofs.Inbox.{InboxChanged, IsInbox, unlinked-is}

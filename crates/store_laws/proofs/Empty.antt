@@ -26,9 +26,9 @@ use Rattle.store.specs.Change.{freeRecords, emptyHead, emptyRecords}
 use Rattle.store.proofs.Bytes.{byte-other, cleared-zero, next-cleared, length-no-record}
 use Rattle.store.proofs.Locality.{free-record, length-empty, empty-size, empty-sized}
 use Rattle.store_laws.specs.Lists.{times, timesOn, freeList, inboxList, numbersFrom}
+use Rattle.store_laws.specs.Standing.{Leads, IsChain, OnChains}
 use Rattle.store_laws.proofs.Times.{by-same, times-head, times-other}
-use Rattle.store_laws.proofs.Leads.{Leads, IsChain}
-use Rattle.store_laws.proofs.OnChains.{OnChains, free-is, inbox-is, chains-sound, free-count}
+use Rattle.store_laws.proofs.OnChains.{free-is, inbox-is, chains-sound, free-count}
 use Rattle.store_laws.proofs.Sound.{Sound}
 
 pub length-numbers : (left i : ℕ) → length (numbersFrom left i) ≡ left

@@ -8,8 +8,9 @@ use lib.ListN.{length}
 use Rattle.store.specs.Head.{groupSize}
 use Rattle.store.specs.Sound.{soundRecords, freeCount}
 use Rattle.store_laws.specs.Lists.{timesOn, freeList, inboxList, heldOn}
+use Rattle.store_laws.specs.Standing.{OnChains}
 use Rattle.store_laws.proofs.Times.{total, total-length}
-use Rattle.store_laws.proofs.OnChains.{OnChains, sound-chains, free-count, head-on-none}
+use Rattle.store_laws.proofs.OnChains.{sound-chains, free-count, head-on-none}
 
 -- the same, counted by records below m
 totalOn : ℕ → ℕ → (ℕ → List ℕ) → ℕ → ℕ

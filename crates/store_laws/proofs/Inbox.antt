@@ -15,8 +15,9 @@ use Rattle.store.specs.Chain.{nextIn}
 use Rattle.store.specs.Change.{withNextIn, appended, unlinked}
 use Rattle.store.proofs.Joined.{Sized}
 use Rattle.store_laws.specs.Lists.{times}
+use Rattle.store_laws.specs.Standing.{Leads, IsChain}
 use Rattle.store_laws.proofs.Times.{times-append, times-head, times-rest, stands-head, stands-tail}
-use Rattle.store_laws.proofs.Leads.{Leads, IsChain, leads-join, leads-split, leads-same, starts, starts-not, starts-below, last-from, before-from}
+use Rattle.store_laws.proofs.Leads.{leads-join, leads-split, leads-same, starts, starts-not, starts-below, last-from, before-from}
 use Rattle.store_laws.proofs.Links.{Small, same-free, same-first, same-head, first-set, first-other, first-free, first-head, next-of-set, next-other, next-head, next-set}
 
 -- a change of node k's inbox alone: records that do not stand in `l` keep their next, other chains their first record

@@ -10,16 +10,8 @@ use borrow.Author.Tests.{eq-eqb, ne-eqb}
 use lib.ListN.{length}
 use Rattle.store.specs.Chain.{nextIn, chainFrom, lastFrom, beforeFrom}
 use Rattle.store_laws.specs.Lists.{times}
+use Rattle.store_laws.specs.Standing.{Leads, IsChain}
 use Rattle.store_laws.proofs.Times.{times-head, times-other, times-rest, stands-head, stands-tail}
-
--- the records of l, one after the other from record i, lead to record j
-unfoldable pub Leads : List (List ℕ) → ℕ → List ℕ → ℕ → Type 0
-Leads rs i [] j = i ≡ j
-Leads rs i (x ∷ l) j = (x ≡ i) × (x ≢ 0) × Leads rs (nextIn rs x) l j
-
--- l is the chain from record i: "zero ends the chain"
-abbrev pub IsChain : List (List ℕ) → ℕ → List ℕ → Type 0
-IsChain rs i l = Leads rs i l 0
 
 -- ---- parts of a chain
 

@@ -23,9 +23,10 @@ use Rattle.store.specs.Head.{groupSize, firstOf}
 use Rattle.store.specs.Sound.{addressedTo, belongsTo, messageIn, soundRecords}
 use Rattle.store.proofs.Bytes.{kind-none, nothing-none}
 use Rattle.store_laws.specs.Lists.{times, freeList, inboxList}
+use Rattle.store_laws.specs.Standing.{IsChain, OnChains}
 use Rattle.store_laws.proofs.Times.{by-same, stands-where}
-use Rattle.store_laws.proofs.Leads.{IsChain, never-zero}
-use Rattle.store_laws.proofs.OnChains.{OnChains, sound-chains}
+use Rattle.store_laws.proofs.Leads.{never-zero}
+use Rattle.store_laws.proofs.OnChains.{sound-chains}
 
 -- ---- what a record says
 

@@ -1,6 +1,4 @@
--- A sound store (document 01): "every record from 1 stands once on exactly one chain (free or inbox), free records are zero
--- after next, and inbox records are readable with sender below n, not the addressee, and addressee the inbox's owner". Here
--- this sentence is said of lists of records, and the executable definition means just that: the law goes both ways.
+-- The executable definition of a sound store means what document 01 says of its records: the law goes both ways.
 use Prim.Native.Nat.{ℕ, _+_, _≤_, _<_}
 use mathlib.Core.Path.{_≡_, sym, subst, _∙_}
 use mathlib.Core.Bool.{true}
@@ -17,24 +15,10 @@ use Rattle.store.specs.Records.{recordIn}
 use Rattle.store.specs.Head.{firstFree, groupSize, firstOf, headZero}
 use Rattle.store.specs.Sound.{belongsTo, walkInboxes, allPassed, headPassed, walkFree, allOnChains, soundRecords, freeCount}
 use Rattle.store_laws.specs.Lists.{times, timesOn, freeList, inboxList}
+use Rattle.store_laws.specs.Standing.{IsChain, standing, OnChains, StandSound, SoundMeans}
 use Rattle.store_laws.proofs.Times.{by-same, times-on-same, stands-on, stands-where, length-most}
-use Rattle.store_laws.proofs.Leads.{IsChain, chain-from, never-zero}
+use Rattle.store_laws.proofs.Leads.{chain-from, never-zero}
 use Rattle.store_laws.proofs.Walk.{mark, Followed, FollowedAll, walk-chain, chain-walk, inboxes-chains, chains-inboxes, head-marks, head-passed, beyond-passed, all-passed, passed-all}
-
--- how often record r stands on the chains
-abbrev pub standing : List (List ℕ) → List ℕ → (ℕ → List ℕ) → ℕ → ℕ
-standing rs free inbox r = times r free + timesOn r (groupSize rs) inbox 0
-
--- `free` is the free chain and `inbox k` that of node k's inbox, for each node of the group
-pub record OnChains (rs : List (List ℕ)) (free : List ℕ) (inbox : ℕ → List ℕ) : Type 0 where
-  pub free-chain : IsChain rs (firstFree rs) free
-  pub inbox-chain : (k : ℕ) → k < groupSize rs → IsChain rs (firstOf rs k) (inbox k)
-  -- "every record from 1 stands once on exactly one chain"
-  pub once : (r : ℕ) → r ≢ 0 → r < length rs → standing rs free inbox r ≡ 1
-  pub no-other : (r : ℕ) → length rs ≤ r → standing rs free inbox r ≡ 0
-  -- "free records are zero after next", inbox records are as they should be
-  pub free-zero : (r : ℕ) → 0 < times r free → zeroAfterNext (recordIn rs r) ≡ true
-  pub inbox-owned : (k : ℕ) → k < groupSize rs → (r : ℕ) → 0 < times r (inbox k) → belongsTo (groupSize rs) k (recordIn rs r) ≡ true
 
 -- ---- there is one way only
 
@@ -177,17 +161,8 @@ pub chains-sound : {rs : List (List ℕ)} {free : List ℕ} {inbox : ℕ → Lis
 unfolding soundRecords
 chains-sound v z c = and-both v (and-both z (all-ok (chains-are c)))
 
--- ---- the law in one
-
--- "n is valid, the head is zero where said above", and the records stand on chains as said
-pub record StandSound (rs : List (List ℕ)) : Type 0 where
-  pub valid : validSize (groupSize rs) ≡ true
-  pub head : headZero rs ≡ true
-  pub free : List ℕ
-  pub inbox : ℕ → List ℕ
-  pub on-chains : OnChains rs free inbox
-
-pub sound-means : (rs : List (List ℕ)) → (soundRecords rs ≡ true → StandSound rs) × (StandSound rs → soundRecords rs ≡ true)
+pub sound-means : SoundMeans
+unfolding SoundMeans
 sound-means rs = (
   λ e. record { valid = sound-valid rs e; head = sound-head rs e; free = freeList rs; inbox = inboxList rs; on-chains = sound-chains rs e },
   λ d. chains-sound (d .valid) (d .head) (d .on-chains),

@@ -23,9 +23,10 @@ use Rattle.store.proofs.Bytes.{Alike, alike-read, alike-rows, alike-zero, next-
 use Rattle.store.proofs.Joined.{Sized}
 use Rattle.store.proofs.Locality.{Local, Holds, set-same, set-other, local-alike, free-local, taken-local, appended-local, put-local}
 use Rattle.store_laws.specs.Lists.{times, freeList, inboxList}
+use Rattle.store_laws.specs.Standing.{Leads, IsChain, OnChains}
 use Rattle.store_laws.proofs.Times.{by-same, times-head, times-other, times-append, stands-head, stands-tail, changed, changed-at, changed-other}
-use Rattle.store_laws.proofs.Leads.{Leads, IsChain, leads-join, leads-same, starts-below}
-use Rattle.store_laws.proofs.OnChains.{OnChains, at-most-once, free-is, inbox-is, sound-chains, sound-valid, sound-head, chains-sound, free-count}
+use Rattle.store_laws.proofs.Leads.{leads-join, leads-same, starts-below}
+use Rattle.store_laws.proofs.OnChains.{at-most-once, free-is, inbox-is, sound-chains, sound-valid, sound-head, chains-sound, free-count}
 use Rattle.store_laws.proofs.Message.{addressed-is, message-read, message-head}
 use Rattle.store_laws.proofs.Links.{Small, same-free, same-first, same-head, free-set, free-first, free-head}
 use Rattle.store_laws.proofs.Inbox.{InboxChanged, IsInbox, appended-is}

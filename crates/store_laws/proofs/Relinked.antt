@@ -15,9 +15,10 @@ use Rattle.store.specs.Chain.{nextIn}
 use Rattle.store.specs.Sound.{addressedTo, belongsTo}
 use Rattle.store.proofs.Bytes.{Alike, alike-read}
 use Rattle.store_laws.specs.Lists.{times, timesOn}
+use Rattle.store_laws.specs.Standing.{IsChain, standing, OnChains}
 use Rattle.store_laws.proofs.Times.{by-same, times-on-change, stands-on, stands-two, changed, changed-at, changed-other}
-use Rattle.store_laws.proofs.Leads.{IsChain, leads-same}
-use Rattle.store_laws.proofs.OnChains.{OnChains, standing, head-on-none, at-most-once, inbox-short}
+use Rattle.store_laws.proofs.Leads.{leads-same}
+use Rattle.store_laws.proofs.OnChains.{head-on-none, at-most-once, inbox-short}
 use Rattle.store_laws.proofs.Inbox.{IsInbox}
 
 -- ---- a record that stands on one chain stands on no other

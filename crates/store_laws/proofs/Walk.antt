@@ -19,8 +19,9 @@ use Rattle.store.specs.Head.{firstOf}
 use Rattle.store.specs.Chain.{nextIn, chainFrom, walked, walk}
 use Rattle.store.specs.Sound.{belongsTo, walkInboxes, allPassed, headPassed}
 use Rattle.store_laws.specs.Lists.{bit, times, timesOn, inboxList}
+use Rattle.store_laws.specs.Standing.{Leads, IsChain}
 use Rattle.store_laws.proofs.Times.{bit-same, bit-other, bit-true, bit-false, by-same, stands-cases, stands-head, stands-tail}
-use Rattle.store_laws.proofs.Leads.{Leads, IsChain, chain-from}
+use Rattle.store_laws.proofs.Leads.{chain-from}
 
 -- whether record r was passed, as a number; a record that is not there counts as passed
 abbrev pub mark : List Bool → ℕ → ℕ
