@@ -5,3 +5,5 @@ pub mod Going
 pub mod Keeps
 pub mod Numbers
 pub mod Runs
+mod Moves
+mod OwnItems

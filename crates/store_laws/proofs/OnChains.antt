@@ -2,7 +2,6 @@
 use Prim.Native.Nat.{ℕ, _+_, _≤_, _<_}
 use mathlib.Core.Path.{_≡_, sym, subst, _∙_}
 use mathlib.Core.Bool.{true}
-use mathlib.Core.Logic.{_≢_}
 use mathlib.Core.List.{List}
 use native.Mathlib.Omega.{arith}
 use lib.ListN.{length}
@@ -11,11 +10,10 @@ use Rattle.item.specs.Tests.{and-left, and-right, and-both}
 use Rattle.endian.proofs.PartLaws.{by-order}
 use Rattle.record.specs.Record.{zeroAfterNext}
 use Rattle.store.specs.declared.Walked.{Walked}
-use Rattle.store.specs.Records.{recordIn}
 use Rattle.store.specs.Head.{firstFree, groupSize, firstOf, headZero}
-use Rattle.store.specs.Sound.{belongsTo, walkInboxes, allPassed, headPassed, walkFree, allOnChains, soundRecords, freeCount}
+use Rattle.store.specs.Sound.{walkInboxes, allPassed, headPassed, walkFree, allOnChains, soundRecords, freeCount}
 use Rattle.store_laws.specs.Lists.{times, timesOn, freeList, inboxList}
-use Rattle.store_laws.specs.Standing.{IsChain, standing, OnChains, StandSound, SoundMeans}
+use Rattle.store_laws.specs.Standing.{IsChain, standing, OnChains, SoundMeans}
 use Rattle.store_laws.proofs.Times.{by-same, times-on-same, stands-on, stands-where, length-most}
 use Rattle.store_laws.proofs.Leads.{chain-from, never-zero}
 use Rattle.store_laws.proofs.Walk.{mark, Followed, FollowedAll, walk-chain, chain-walk, inboxes-chains, chains-inboxes, head-marks, head-passed, beyond-passed, all-passed, passed-all}
