@@ -2,13 +2,15 @@
 -- two narrower ones.
 use Prim.Native.Nat.{ℕ, zero, suc, _+_, _*_, _/_, _%_, _^_, _≤_, _<_}
 use mathlib.Core.Path.{_≡_, refl, sym, ap, _∙_}
+use mathlib.Core.Bool.{Bool, true, false, not}
 use mathlib.Core.List.{List, [], _∷_, _++_}
 use native.Mathlib.Omega.{arith}
 use native.Mathlib.Numerals.{add-one}
 use native.Mathlib.Nat.{suc-add, zero-add, pow-suc, pow-succ', mul-assoc, mod-add-div, mod-mod, mod-lt, mod-eq-of-lt, div-eq-of-lt, div-lt-iff-lt-mul, div-div-eq-div-mul, div-one, add-mul-div-left, add-mul-mod-self-left, mul-add-mod-self-left}
+use lib.Dec.{leb}
 use lib.ListN.{length, take, drop, getD, set, length-take, take-append-drop, List·getD-eq-default}
 use lib.Seq.{take-add, drop-drop, drop-cons, getD-take, getD-drop}
-use Rattle.endian.proofs.PartLaws.{by-order, part-is, part-none, length-middle, length-with, part-with, with-none, with-joined, sets-is}
+use Rattle.endian.proofs.PartLaws.{by-order, part-is, part-none, length-middle, length-with, part-with, with-none, with-joined, sets-is, outside, inside}
 use Rattle.endian.specs.Number.{value, bytes, numberAt, withNumber, AreBytes}
 
 pub length-bytes : (w v : ℕ) → length (bytes w v) ≡ w
@@ -121,6 +123,24 @@ pub with-number-joined : (a b : ℕ) (s : List ℕ) (at v : ℕ) → at + (a + b
 unfolding withNumber
 with-number-joined a b s at v h =
     rw (bytes-low a v, bytes-append a b v) (with-joined a b s at (bytes a v) (bytes b (v / 256 ^ a)) (length-bytes a v) (length-bytes b (v / 256 ^ a)) h)
+
+-- ---- as code reads and writes: r is the answer whether the bytes lie within s
+
+module _ {r : Bool} (w : ℕ) (s : List ℕ) (at : ℕ) (e : r ≡ leb (at + w) (length s)) where
+  pub nothing-read : not r ≡ true → 0 ≡ numberAt w s at
+  nothing-read h = sym (number-none w s at (outside w (length s) at e h))
+
+  pub nothing-written : (v : ℕ) → not r ≡ true → s ≡ withNumber w s at v
+  nothing-written v h = sym (with-number-none w s at v (outside w (length s) at e h))
+
+-- a number of twice the width a, by two of width a
+module _ {r : Bool} (a : ℕ) (s : List ℕ) (at : ℕ) (e : r ≡ leb (at + (a + a)) (length s)) (h : not r ≡ false) where
+  pub halves-read : {low high : ℕ} → low ≡ numberAt a s at → high ≡ numberAt a s (at + a) → low + 256 ^ a * high ≡ numberAt (a + a) s at
+  halves-read l k = rw (l, k) (sym (number-joined a a s at (inside (a + a) (length s) at e h)))
+
+  pub halves-written : (v : ℕ) {t u : List ℕ} → t ≡ withNumber a s at (v % 256 ^ a) → u ≡ withNumber a t (at + a) (v / 256 ^ a)
+      → u ≡ withNumber (a + a) s at v
+  halves-written v p q = rw (q, p) (with-number-joined a a s at v (inside (a + a) (length s) at e h))
 
 pub length-with-number : (w : ℕ) (s : List ℕ) (at v : ℕ) → length (withNumber w s at v) ≡ length s
 unfolding withNumber

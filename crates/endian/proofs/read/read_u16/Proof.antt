@@ -1,12 +1,11 @@
 -- `endian::read::read_u16` meets its contract: 0 past the end, else the number of two bytes, by `number-two`.
 -- A byte is below 256, so neither product nor sum wraps.
 use Prim.Native.Nat.{_+_}
-use mathlib.Core.Path.{sym}
 use native.Mathlib.Omega.{arith}
 use lib.ListN.{length}
 use denote.Ref.{now}
-use Rattle.endian.proofs.PartLaws.{outside, inside}
-use Rattle.endian.proofs.NumberLaws.{number-none, number-two}
+use Rattle.endian.proofs.PartLaws.{inside}
+use Rattle.endian.proofs.NumberLaws.{nothing-read, number-two}
 use borrow.Author.Needs.{needs}
 use Rattle.endian.proofs.read.read_u16.Statement.{statement}
 use Rattle.endian.proofs.read.read_u16.Tie as tie
@@ -15,7 +14,7 @@ lies-within-requires : tie.Need-lies-within-requires
 lies-within-requires c κs = search needs
 
 returns : tie.Need-returns
-returns c = let a = c .before .before .before .args in let s = now (a .s) in sym (number-none 2 s (a .at) (outside 2 (length s) (a .at) (c .before .lies-within .ensures) (c .if1 .taken)))
+returns c = let a = c .before .before .before .args in nothing-read 2 (now (a .s)) (a .at) (c .before .lies-within .ensures) (c .if1 .taken)
 
 shared-slice-read-wide : tie.Need-shared-slice-read-wide
 shared-slice-read-wide c = let a = c .before .before .before .before .args in let h = inside 2 (length (now (a .s))) (a .at) (c .before .before .lies-within .ensures) (c .before .if1 .left) in omega arith

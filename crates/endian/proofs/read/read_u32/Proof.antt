@@ -1,10 +1,9 @@
--- `endian::read::read_u32` meets its contract: 0 past the end, else two numbers of half the width are one, by `number-joined`.
-use mathlib.Core.Path.{sym}
+-- `endian::read::read_u32` meets its contract: 0 past the end, else two numbers of half the width are one, by `halves-read`.
 use native.Mathlib.Omega.{arith}
 use lib.ListN.{length}
 use denote.Ref.{now}
-use Rattle.endian.proofs.PartLaws.{outside, inside}
-use Rattle.endian.proofs.NumberLaws.{number-none, number-joined}
+use Rattle.endian.proofs.PartLaws.{inside}
+use Rattle.endian.proofs.NumberLaws.{nothing-read, halves-read}
 use borrow.Author.Needs.{needs}
 use Rattle.endian.proofs.read.read_u32.Statement.{statement}
 use Rattle.endian.proofs.read.read_u32.Tie as tie
@@ -13,7 +12,7 @@ lies-within-requires : tie.Need-lies-within-requires
 lies-within-requires c κs = search needs
 
 returns : tie.Need-returns
-returns c = let a = c .before .before .before .args in let s = now (a .s) in sym (number-none 4 s (a .at) (outside 4 (length s) (a .at) (c .before .lies-within .ensures) (c .if1 .taken)))
+returns c = let a = c .before .before .before .args in nothing-read 4 (now (a .s)) (a .at) (c .before .lies-within .ensures) (c .if1 .taken)
 
 read-u16-requires : tie.Need-read-u16-requires
 read-u16-requires c κs = search needs
@@ -37,7 +36,10 @@ add-result : tie.Need-add-result
 add-result c = search needs
 
 returns-2 : tie.Need-returns-2
-returns-2 c = let a = c .before .before .before .before .before .args in let s = now (a .s) in rw (c .before .read-u16 .ensures, c .read-u162 .ensures, number-joined 2 2 s (a .at) (inside 4 (length s) (a .at) (c .before .before .before .lies-within .ensures) (c .before .before .if1 .left)))
+returns-2 c =
+    let b = c .before .before in
+    let a = b .before .before .before .args in
+    halves-read 2 (now (a .s)) (a .at) (b .before .lies-within .ensures) (b .if1 .left) (c .before .read-u16 .ensures) (c .read-u162 .ensures)
 
 pub read-u32-spec : {M : Type 1} → statement M
 read-u32-spec =

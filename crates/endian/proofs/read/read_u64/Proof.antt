@@ -1,10 +1,9 @@
--- `endian::read::read_u64` meets its contract: 0 past the end, else two numbers of half the width are one, by `number-joined`.
-use mathlib.Core.Path.{sym}
+-- `endian::read::read_u64` meets its contract: 0 past the end, else two numbers of half the width are one, by `halves-read`.
 use native.Mathlib.Omega.{arith}
 use lib.ListN.{length}
 use denote.Ref.{now}
-use Rattle.endian.proofs.PartLaws.{outside, inside}
-use Rattle.endian.proofs.NumberLaws.{number-none, number-joined}
+use Rattle.endian.proofs.PartLaws.{inside}
+use Rattle.endian.proofs.NumberLaws.{nothing-read, halves-read}
 use borrow.Author.Needs.{needs}
 use Rattle.endian.proofs.read.read_u64.Statement.{statement}
 use Rattle.endian.proofs.read.read_u64.Tie as tie
@@ -13,7 +12,7 @@ lies-within-requires : tie.Need-lies-within-requires
 lies-within-requires c κs = search needs
 
 returns : tie.Need-returns
-returns c = let a = c .before .before .before .args in let s = now (a .s) in sym (number-none 8 s (a .at) (outside 8 (length s) (a .at) (c .before .lies-within .ensures) (c .if1 .taken)))
+returns c = let a = c .before .before .before .args in nothing-read 8 (now (a .s)) (a .at) (c .before .lies-within .ensures) (c .if1 .taken)
 
 read-u32-requires : tie.Need-read-u32-requires
 read-u32-requires c κs = search needs
@@ -37,7 +36,10 @@ add-result : tie.Need-add-result
 add-result c = search needs
 
 returns-2 : tie.Need-returns-2
-returns-2 c = let a = c .before .before .before .before .before .args in let s = now (a .s) in rw (c .before .read-u32 .ensures, c .read-u322 .ensures, number-joined 4 4 s (a .at) (inside 8 (length s) (a .at) (c .before .before .before .lies-within .ensures) (c .before .before .if1 .left)))
+returns-2 c =
+    let b = c .before .before in
+    let a = b .before .before .before .args in
+    halves-read 4 (now (a .s)) (a .at) (b .before .lies-within .ensures) (b .if1 .left) (c .before .read-u32 .ensures) (c .read-u322 .ensures)
 
 pub read-u64-spec : {M : Type 1} → statement M
 read-u64-spec =

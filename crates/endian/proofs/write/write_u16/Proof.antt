@@ -1,10 +1,9 @@
 -- `endian::write::write_u16` meets its contract: nothing is written past the end, else two stores are one part, by `with-two`.
-use mathlib.Core.Path.{sym}
 use native.Mathlib.Omega.{arith}
 use lib.ListN.{length, length-set}
 use denote.Ref.{now}
-use Rattle.endian.proofs.PartLaws.{outside, inside}
-use Rattle.endian.proofs.NumberLaws.{with-number-none, with-two}
+use Rattle.endian.proofs.PartLaws.{inside}
+use Rattle.endian.proofs.NumberLaws.{nothing-written, with-two}
 use borrow.Author.Needs.{needs}
 use Rattle.endian.proofs.write.write_u16.Statement.{statement}
 use Rattle.endian.proofs.write.write_u16.Tie as tie
@@ -13,7 +12,7 @@ lies-within-requires : tie.Need-lies-within-requires
 lies-within-requires c κs = search needs
 
 returns : tie.Need-returns
-returns c = let a = c .before .before .before .args in let s = now (a .s) in sym (with-number-none 2 s (a .at) (a .v) (outside 2 (length s) (a .at) (c .before .lies-within .ensures) (c .if1 .taken)))
+returns c = let a = c .before .before .before .args in nothing-written 2 (now (a .s)) (a .at) (c .before .lies-within .ensures) (a .v) (c .if1 .taken)
 
 cast-s : tie.Need-cast-s
 cast-s c = search needs
