@@ -42,7 +42,7 @@ answered n k drill result =
     }
 
 -- "A later accepted `n` starts afresh"; a refused one changes nothing
-unfoldable pub sizeAfter : ℕ → ℕ → Answer → ℕ
+abbrev pub sizeAfter : ℕ → ℕ → Answer → ℕ
 sizeAfter n before answer = cond (isRefused answer) before n
 
 unfoldable pub begun : ℕ → Drill → Result → Done
