@@ -25,29 +25,7 @@ use Rattle.protocol.specs.declared.Phase.the-variants.{Down, Fetching, Returnin
 use Rattle.protocol.specs.declared.Step.{Step}
 use Rattle.laws_node.specs.Decision.{Decision}
 use Rattle.laws_node.specs.Laws.{IncarnationsNeverFall, AttemptsNeverFall}
-use Rattle.laws_node.proofs.Outcome.{
-  Received,
-  declines,
-  takes,
-  countsStored,
-  asks,
-  confirms,
-  countsConfirmed,
-  ends,
-  tells,
-  countsTable,
-  stops,
-  writesBack,
-  Outcome,
-  refuses,
-  writes,
-  fetchesAgain,
-  retries,
-  crashes,
-  starts,
-  receives,
-  outcome,
-}
+use Rattle.laws_node.proofs.Outcome.{Received, declines, takes, countsStored, asks, confirms, countsConfirmed, ends, tells, countsTable, stops, writesBack, Outcome, refuses, writes, fetchesAgain, retries, crashes, starts, receives, outcome}
 
 -- ---- incarnations
 

@@ -19,29 +19,7 @@ use Rattle.protocol.specs.declared.Sends.{Sends}
 use Rattle.protocol.specs.declared.Step.{Step}
 use Rattle.laws_node.specs.Decision.{Decision}
 use Rattle.laws_node.specs.Laws.{GivesBack, RefusedGivesBack}
-use Rattle.laws_node.proofs.Outcome.{
-  Received,
-  declines,
-  takes,
-  countsStored,
-  asks,
-  confirms,
-  countsConfirmed,
-  ends,
-  tells,
-  countsTable,
-  stops,
-  writesBack,
-  Outcome,
-  refuses,
-  writes,
-  fetchesAgain,
-  retries,
-  crashes,
-  starts,
-  receives,
-  outcome,
-}
+use Rattle.laws_node.proofs.Outcome.{Received, declines, takes, countsStored, asks, confirms, countsConfirmed, ends, tells, countsTable, stops, writesBack, Outcome, refuses, writes, fetchesAgain, retries, crashes, starts, receives, outcome}
 
 by-refused : (node : Node) (why : Refusal) → GivesBack node (refused node why)
 unfolding refused

@@ -24,30 +24,7 @@ use Rattle.protocol.proofs.Rows.{row-kept, begun-other}
 use Rattle.laws_node.specs.Decision.{Decision, Retry, Crash, Start}
 use Rattle.laws_node.specs.Fields.{Changed, among, changed, changedBy, Leaves}
 use Rattle.laws_node.specs.Laws.{OthersLeftAlone}
-use Rattle.laws_node.proofs.Outcome.{
-  Received,
-  declines,
-  takes,
-  countsStored,
-  asks,
-  confirms,
-  countsConfirmed,
-  ends,
-  tells,
-  countsTable,
-  stops,
-  writesBack,
-  Outcome,
-  refuses,
-  writes,
-  fetchesAgain,
-  retries,
-  crashes,
-  starts,
-  receives,
-  asking,
-  outcome,
-}
+use Rattle.laws_node.proofs.Outcome.{Received, declines, takes, countsStored, asks, confirms, countsConfirmed, ends, tells, countsTable, stops, writesBack, Outcome, refuses, writes, fetchesAgain, retries, crashes, starts, receives, asking, outcome}
 
 -- a field that may change
 may : {A : Type 0} → true ≡ false → A

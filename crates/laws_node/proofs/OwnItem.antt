@@ -30,29 +30,7 @@ use Rattle.protocol.proofs.Rows.{row-kept, begun-own, merged-row, merged-length
 use Rattle.laws_node.specs.Decision.{Decision, MayCome}
 use Rattle.laws_node.specs.Laws.{OwnItemOnlyWritten}
 use Rattle.laws_node.specs.OwnItem.{ByTable, stays, fetched, lost, ItemBy, ItemAfter, OwnItem}
-use Rattle.laws_node.proofs.Outcome.{
-  Received,
-  declines,
-  takes,
-  countsStored,
-  asks,
-  confirms,
-  countsConfirmed,
-  ends,
-  tells,
-  countsTable,
-  stops,
-  writesBack,
-  Outcome,
-  refuses,
-  writes,
-  fetchesAgain,
-  retries,
-  crashes,
-  starts,
-  receives,
-  outcome,
-}
+use Rattle.laws_node.proofs.Outcome.{Received, declines, takes, countsStored, asks, confirms, countsConfirmed, ends, tells, countsTable, stops, writesBack, Outcome, refuses, writes, fetchesAgain, retries, crashes, starts, receives, outcome}
 
 -- ---- the changes of a node
 

@@ -27,29 +27,7 @@ use Rattle.protocol.specs.declared.Step.{Step}
 use Rattle.protocol.proofs.InView.{size-fits}
 use Rattle.laws_node.specs.Decision.{Decision, MayCome}
 use Rattle.laws_node.specs.Laws.{SoundStaysSound}
-use Rattle.laws_node.proofs.Outcome.{
-  Received,
-  declines,
-  takes,
-  countsStored,
-  asks,
-  confirms,
-  countsConfirmed,
-  ends,
-  tells,
-  countsTable,
-  stops,
-  writesBack,
-  Outcome,
-  refuses,
-  writes,
-  fetchesAgain,
-  retries,
-  crashes,
-  starts,
-  receives,
-  outcome,
-}
+use Rattle.laws_node.proofs.Outcome.{Received, declines, takes, countsStored, asks, confirms, countsConfirmed, ends, tells, countsTable, stops, writesBack, Outcome, refuses, writes, fetchesAgain, retries, crashes, starts, receives, outcome}
 use Rattle.laws_node.proofs.PhaseCases.{idle-cases, live-cases}
 use Rattle.laws_node.proofs.Soundly.{Soundly, read-sound, is-sound, rows-of, crashed-sound, started-sound, begun-sound}
 use Rattle.laws_node.proofs.SoundMessages.{row-sound, stored-counted, asking-sound, confirmed-counted, ended-sound, table-counted, back-sound}
