@@ -1,21 +1,18 @@
 -- `node_sound::all_among_asked` meets its contract: at place k the counted from k on tell the answer.
-use Prim.Native.Nat.{_≤_, _-_}
-use mathlib.Core.Path.{_≡_, refl, _∙_}
-use lib.ListN.{length, drop}
+use Prim.Native.Nat.{_-_}
+use mathlib.Core.Path.{refl}
 use native.Mathlib.Omega.{arith}
 use borrow.Author.Needs.{needs}
 use Rattle.item.specs.Maxima.{maxNodes}
-use Rattle.item.specs.Tests.{refuted, granted}
 use Rattle.protocol.specs.Node.{noPeer}
-use Rattle.protocol.specs.Sound.{everyFrom, amongAsked}
+use Rattle.protocol.specs.Sound.{amongAsked}
 use Rattle.node.proofs.Array.{length-mapped}
-use Rattle.node_sound.proofs.Every.{every-passes, every-fails, every-passed}
+use Rattle.node_sound.proofs.Every.{RestTells, every-fails, every-passes, every-passed}
 use Rattle.node_sound.proofs.all_among_asked.Statement.{statement}
 use Rattle.node_sound.proofs.all_among_asked.Tie as tie
 
 abbrev Inv-loop : tie.InvT-loop
-Inv-loop asked counted k₀ k =
-    (k ≤ maxNodes) × (length counted ≡ maxNodes) × (everyFrom (amongAsked asked) 0 counted ≡ everyFrom (amongAsked asked) k (drop k counted))
+Inv-loop asked counted k₀ k = RestTells (amongAsked asked) counted k
 
 abbrev μ-loop : tie.MeasureT-loop
 μ-loop asked counted k₀ k = maxNodes - k
@@ -36,10 +33,7 @@ returns : tie.Need-returns Inv-loop μ-loop
 returns c =
     let l = c .before .before .before .before .loop in
     let a = c .before .before .before .before .before .args in
-    rw (
-      l .inv .2,
-      every-fails (amongAsked (a .asked)) (a .t1) noPeer (l .k) (omega arith) (refuted (c .before .among-asked .ensures) (c .if1 .taken)),
-    )
+    every-fails (amongAsked (a .asked)) (a .t1) noPeer (l .k) (l .inv) (omega arith) (c .before .among-asked .ensures) (c .if1 .taken)
 
 add-k : tie.Need-add-k Inv-loop μ-loop
 add-k c = search needs
@@ -50,17 +44,14 @@ loop-less c = search needs
 loop-again : tie.Need-loop-again Inv-loop μ-loop
 loop-again c =
     let l = c .before .before .before .before .loop in
-    let a = c .before .before .before .before .before .args in (
-      omega arith,
-      l .inv .1,
-      l .inv .2 ∙ every-passes (amongAsked (a .asked)) (a .t1) noPeer (l .k) (omega arith) (granted (c .before .among-asked .ensures) (c .if1 .left)),
-    )
+    let a = c .before .before .before .before .before .args in
+    every-passes (amongAsked (a .asked)) (a .t1) noPeer (l .k) (l .inv) (omega arith) (c .before .among-asked .ensures) (c .if1 .left)
 
 returns-2 : tie.Need-returns-2 Inv-loop μ-loop
 returns-2 c =
     let l = c .before .loop in
     let a = c .before .before .args in
-    rw (l .inv .2, every-passed (amongAsked (a .asked)) (a .t1) noPeer (l .k) (omega arith))
+    every-passed (amongAsked (a .asked)) (a .t1) noPeer (l .k) (l .inv) (omega arith)
 
 pub all-among-asked-spec : {M : Type 1} → statement M
 all-among-asked-spec =

@@ -1,21 +1,18 @@
 -- `node_sound::peers_sound` meets its contract: at place k the peers from k on tell the answer.
-use Prim.Native.Nat.{_≤_, _-_}
-use mathlib.Core.Path.{_≡_, refl, _∙_}
-use lib.ListN.{length, drop}
+use Prim.Native.Nat.{_-_}
+use mathlib.Core.Path.{refl}
 use native.Mathlib.Omega.{arith}
 use borrow.Author.Needs.{needs}
 use Rattle.item.specs.Maxima.{maxNodes}
-use Rattle.item.specs.Tests.{refuted, granted}
 use Rattle.protocol.specs.Node.{noPeer}
-use Rattle.protocol.specs.Sound.{everyFrom, peerSound, peersSound}
+use Rattle.protocol.specs.Sound.{peerSound, peersSound}
 use Rattle.node.proofs.Array.{length-mapped}
-use Rattle.node_sound.proofs.Every.{every-passes, every-fails, every-passed}
+use Rattle.node_sound.proofs.Every.{RestTells, every-fails, every-passes, every-passed}
 use Rattle.node_sound.proofs.peers_sound.Statement.{statement}
 use Rattle.node_sound.proofs.peers_sound.Tie as tie
 
 abbrev Inv-loop : tie.InvT-loop
-Inv-loop number n peers k₀ k =
-    (k ≤ maxNodes) × (length peers ≡ maxNodes) × (everyFrom (peerSound number n) 0 peers ≡ everyFrom (peerSound number n) k (drop k peers))
+Inv-loop number n peers k₀ k = RestTells (peerSound number n) peers k
 
 abbrev μ-loop : tie.MeasureT-loop
 μ-loop number n peers k₀ k = maxNodes - k
@@ -37,10 +34,7 @@ unfolding peersSound
 returns c =
     let l = c .before .before .before .before .loop in
     let a = c .before .before .before .before .before .args in
-    rw (
-      l .inv .2,
-      every-fails (peerSound (a .number) (a .n)) (a .t3) noPeer (l .k) (omega arith) (refuted (c .before .peer-sound .ensures) (c .if1 .taken)),
-    )
+    every-fails (peerSound (a .number) (a .n)) (a .t3) noPeer (l .k) (l .inv) (omega arith) (c .before .peer-sound .ensures) (c .if1 .taken)
 
 add-k : tie.Need-add-k Inv-loop μ-loop
 add-k c = search needs
@@ -51,18 +45,15 @@ loop-less c = search needs
 loop-again : tie.Need-loop-again Inv-loop μ-loop
 loop-again c =
     let l = c .before .before .before .before .loop in
-    let a = c .before .before .before .before .before .args in (
-      omega arith,
-      l .inv .1,
-      l .inv .2 ∙ every-passes (peerSound (a .number) (a .n)) (a .t3) noPeer (l .k) (omega arith) (granted (c .before .peer-sound .ensures) (c .if1 .left)),
-    )
+    let a = c .before .before .before .before .before .args in
+    every-passes (peerSound (a .number) (a .n)) (a .t3) noPeer (l .k) (l .inv) (omega arith) (c .before .peer-sound .ensures) (c .if1 .left)
 
 returns-2 : tie.Need-returns-2 Inv-loop μ-loop
 unfolding peersSound
 returns-2 c =
     let l = c .before .loop in
     let a = c .before .before .args in
-    rw (l .inv .2, every-passed (peerSound (a .number) (a .n)) (a .t3) noPeer (l .k) (omega arith))
+    every-passed (peerSound (a .number) (a .n)) (a .t3) noPeer (l .k) (l .inv) (omega arith)
 
 pub peers-sound-spec : {M : Type 1} → statement M
 peers-sound-spec =

@@ -1,21 +1,19 @@
 -- `node_sound::fast::no_peers` meets its contract. The invariant: what is joined so far says whether all peers looked at pass.
-use Prim.Native.Nat.{_≤_, _-_}
-use mathlib.Core.Path.{_≡_, refl, ap, _∙_}
-use lib.ListN.{length, take}
-use lib.Seq.{take-all}
+use Prim.Native.Nat.{_-_}
+use mathlib.Core.Path.{refl}
 use native.Mathlib.Omega.{arith}
 use borrow.Author.Needs.{needs}
 use Rattle.item.specs.Maxima.{maxNodes}
 use Rattle.protocol.specs.Node.{noPeer}
 use Rattle.protocol.specs.Sound.{everyFrom}
 use Rattle.node.proofs.Array.{length-mapped}
-use Rattle.node_sound.proofs.Every.{every-more}
+use Rattle.node_sound.proofs.Every.{Joined, joined-more, joined-all}
 use Rattle.node_sound.specs.Rest.{absent}
 use Rattle.node_sound.proofs.fast.no_peers.Statement.{statement}
 use Rattle.node_sound.proofs.fast.no_peers.Tie as tie
 
 abbrev Inv-loop : tie.InvT-loop
-Inv-loop peers all₀ k₀ all k = (k ≤ maxNodes) × (length peers ≡ maxNodes) × (all ≡ everyFrom absent 0 (take k peers))
+Inv-loop peers all₀ k₀ all k = Joined absent peers all k
 
 abbrev μ-loop : tie.MeasureT-loop
 μ-loop peers all₀ k₀ all k = maxNodes - k
@@ -42,17 +40,10 @@ loop-less c = search needs
 loop-again : tie.Need-loop-again Inv-loop μ-loop
 loop-again c =
     let l = c .before .before .before .loop in
-    let a = c .before .before .before .before .args in (
-      omega arith,
-      l .inv .1,
-      rw (c .is-absent .ensures) (every-more absent (a .t1) noPeer (l .k) (l .all) (omega arith) (l .inv .2)),
-    )
+    rw (c .is-absent .ensures) (joined-more absent (c .before .before .before .before .args .t1) (l .all) (l .k) (l .inv) noPeer (omega arith))
 
 returns : tie.Need-returns Inv-loop μ-loop
-returns c =
-    let l = c .before .loop in
-    let a = c .before .before .args in
-    l .inv .2 ∙ ap (everyFrom absent 0) (take-all (l .k) (a .t1) (omega arith))
+returns c = let l = c .before .loop in joined-all absent (c .before .before .args .t1) (l .all) (l .k) (l .inv) (omega arith)
 
 pub no-peers-spec : {M : Type 1} → statement M
 no-peers-spec =

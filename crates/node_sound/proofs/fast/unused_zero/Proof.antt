@@ -1,9 +1,7 @@
 -- `node_sound::fast::unused_zero` meets its contract. The invariant: what is joined so far is 0 exactly if all rows looked at pass.
-use Prim.Native.Nat.{_≤_, _-_}
-use mathlib.Core.Path.{_≡_, refl, ap, _∙_}
+use Prim.Native.Nat.{_-_}
 use lib.Dec.{eqb}
-use lib.ListN.{length, take}
-use lib.Seq.{take-all}
+use mathlib.Core.Path.{refl}
 use native.Mathlib.Omega.{arith}
 use borrow.Author.Needs.{needs}
 use Rattle.endian.proofs.ZeroLaws.{or-zero}
@@ -11,14 +9,13 @@ use Rattle.item.specs.Maxima.{maxNodes}
 use Rattle.item.specs.Row.{zeroRow}
 use Rattle.protocol.specs.Sound.{everyFrom}
 use Rattle.node.proofs.Array.{length-mapped}
-use Rattle.node_sound.proofs.Every.{every-more}
+use Rattle.node_sound.proofs.Every.{Joined, joined-more, joined-all}
 use Rattle.node_sound.specs.Rest.{unusedRowZero, unusedZero}
 use Rattle.node_sound.proofs.fast.unused_zero.Statement.{statement}
 use Rattle.node_sound.proofs.fast.unused_zero.Tie as tie
 
 abbrev Inv-loop : tie.InvT-loop
-Inv-loop n rows joined₀ k₀ joined k =
-    (k ≤ maxNodes) × (length rows ≡ maxNodes) × (eqb joined 0 ≡ everyFrom (unusedRowZero n) 0 (take k rows))
+Inv-loop n rows joined₀ k₀ joined k = Joined (unusedRowZero n) rows (eqb joined 0) k
 
 abbrev μ-loop : tie.MeasureT-loop
 μ-loop n rows joined₀ k₀ joined k = maxNodes - k
@@ -45,20 +42,16 @@ loop-less c = search needs
 loop-again : tie.Need-loop-again Inv-loop μ-loop
 loop-again c =
     let l = c .before .before .before .loop in
-    let a = c .before .before .before .before .before .args in (
-      omega arith,
-      l .inv .1,
-      or-zero (l .joined) (c .unused-bits .result)
-          ∙ rw (c .unused-bits .ensures)
-          (every-more (unusedRowZero (a .n)) (a .node .rows) zeroRow (l .k) (eqb (l .joined) 0) (omega arith) (l .inv .2)),
-    )
+    let a = c .before .before .before .before .before .args in
+    rw (or-zero (l .joined) (c .unused-bits .result), c .unused-bits .ensures)
+    (joined-more (unusedRowZero (a .n)) (a .node .rows) (eqb (l .joined) 0) (l .k) (l .inv) zeroRow (omega arith))
 
 returns : tie.Need-returns Inv-loop μ-loop
 unfolding unusedZero
 returns c =
     let l = c .before .loop in
     let a = c .before .before .before .args in
-    l .inv .2 ∙ ap (everyFrom (unusedRowZero (a .n)) 0) (take-all (l .k) (a .node .rows) (omega arith))
+    joined-all (unusedRowZero (a .n)) (a .node .rows) (eqb (l .joined) 0) (l .k) (l .inv) (omega arith)
 
 pub unused-zero-spec : {M : Type 1} → statement M
 unused-zero-spec =

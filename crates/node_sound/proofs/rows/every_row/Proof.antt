@@ -1,21 +1,18 @@
 -- `node_sound::rows::every_row` meets its contract: at place k the rows from k on tell the answer.
-use Prim.Native.Nat.{_≤_, _-_}
-use mathlib.Core.Path.{_≡_, refl, _∙_}
-use lib.ListN.{length, drop}
+use Prim.Native.Nat.{_-_}
+use mathlib.Core.Path.{refl}
 use native.Mathlib.Omega.{arith}
 use borrow.Author.Needs.{needs}
 use Rattle.item.specs.Maxima.{maxNodes}
-use Rattle.item.specs.Tests.{refuted, granted}
 use Rattle.item.specs.Row.{zeroRow}
-use Rattle.protocol.specs.Sound.{everyFrom, rowSound}
+use Rattle.protocol.specs.Sound.{rowSound}
 use Rattle.node.proofs.Array.{length-mapped}
-use Rattle.node_sound.proofs.Every.{every-passes, every-fails, every-passed}
+use Rattle.node_sound.proofs.Every.{RestTells, every-fails, every-passes, every-passed}
 use Rattle.node_sound.proofs.rows.every_row.Statement.{statement}
 use Rattle.node_sound.proofs.rows.every_row.Tie as tie
 
 abbrev Inv-loop : tie.InvT-loop
-Inv-loop held n rows k₀ k =
-    (k ≤ maxNodes) × (length rows ≡ maxNodes) × (everyFrom (rowSound held n) 0 rows ≡ everyFrom (rowSound held n) k (drop k rows))
+Inv-loop held n rows k₀ k = RestTells (rowSound held n) rows k
 
 abbrev μ-loop : tie.MeasureT-loop
 μ-loop held n rows k₀ k = maxNodes - k
@@ -36,10 +33,7 @@ returns : tie.Need-returns Inv-loop μ-loop
 returns c =
     let l = c .before .before .before .before .loop in
     let a = c .before .before .before .before .before .args in
-    rw (
-      l .inv .2,
-      every-fails (rowSound (a .held) (a .n)) (a .t3) zeroRow (l .k) (omega arith) (refuted (c .before .row-sound .ensures) (c .if1 .taken)),
-    )
+    every-fails (rowSound (a .held) (a .n)) (a .t3) zeroRow (l .k) (l .inv) (omega arith) (c .before .row-sound .ensures) (c .if1 .taken)
 
 add-k : tie.Need-add-k Inv-loop μ-loop
 add-k c = search needs
@@ -50,17 +44,14 @@ loop-less c = search needs
 loop-again : tie.Need-loop-again Inv-loop μ-loop
 loop-again c =
     let l = c .before .before .before .before .loop in
-    let a = c .before .before .before .before .before .args in (
-      omega arith,
-      l .inv .1,
-      l .inv .2 ∙ every-passes (rowSound (a .held) (a .n)) (a .t3) zeroRow (l .k) (omega arith) (granted (c .before .row-sound .ensures) (c .if1 .left)),
-    )
+    let a = c .before .before .before .before .before .args in
+    every-passes (rowSound (a .held) (a .n)) (a .t3) zeroRow (l .k) (l .inv) (omega arith) (c .before .row-sound .ensures) (c .if1 .left)
 
 returns-2 : tie.Need-returns-2 Inv-loop μ-loop
 returns-2 c =
     let l = c .before .loop in
     let a = c .before .before .args in
-    rw (l .inv .2, every-passed (rowSound (a .held) (a .n)) (a .t3) zeroRow (l .k) (omega arith))
+    every-passed (rowSound (a .held) (a .n)) (a .t3) zeroRow (l .k) (l .inv) (omega arith)
 
 pub every-row-spec : {M : Type 1} → statement M
 every-row-spec =
