@@ -9,25 +9,25 @@ use mathlib.Core.List.{List, [], _∷_, _++_}
 use lib.Dec.{eqb, ltb}
 use lib.Bits.{bitOr}
 use lib.ListN.{length, getD, take, drop, set, drop-of-length-le}
-use lib.Seq.{length-take-le, drop-cons, getD-set-same, getD-set-other, ext-getD}
+use lib.Seq.{length-take-le, drop-cons}
 use borrow.Author.Tests.{eqb-true, eq-eqb, ltb-true, lt-ltb}
 use Rattle.item.specs.Maxima.{maxNodes}
 use Rattle.item.specs.Item.{zeroItem}
 use Rattle.item.specs.Tests.{and-both}
 use Rattle.item.specs.declared.Item.{Item}
 use Rattle.endian.specs.Part.{withPart}
-use Rattle.endian.proofs.PartLaws.{by-order, sets-is, with-joined}
+use Rattle.endian.proofs.PartLaws.{sets-is, with-joined}
 use Rattle.endian.specs.Zero.{allZero}
 use Rattle.endian.proofs.ZeroLaws.{both, or-zero}
 use Rattle.endian.specs.Number.{numberAt}
 use Rattle.record.specs.Kind.{messageOf, rowsHeld}
 use Rattle.record.specs.Layout.{rowsAt, rowSize, indexSize, itemIn, rowsOf}
-use Rattle.record.proofs.LayoutLaws as row-laws
 use Rattle.record.specs.declared.kinds.Fields.{Fields}
 use Rattle.record.specs.declared.kinds.Known.the-variants as known
 use Rattle.message.specs.declared.Message as kind
 use Rattle.record.specs.Record.{envelopeOf}
 use Rattle.record_read.specs.Readable.{rowsOfKind}
+use Rattle.record_read.proofs.Reading.{length-rows, row-at}
 use Rattle.record_read.proofs.ReadableLaws.{rows-read}
 use Rattle.record_read.specs.Known.{isKnown}
 use Rattle.message.specs.declared.Envelope.{Envelope}
@@ -114,22 +114,18 @@ with-row-more s rows j hs hr h t et lt =
     ∙ with-joined (2 * j) 2 s rowsFirst (rowNumbers (take j rows)) (x ∷ y ∷ []) lj refl (omega arith)
     ∙ rw (e, add-one j, rows-more rows j (omega arith))
 
-pub length-rows-in : (r : List ℕ) → length (rowsOf r) ≡ maxNodes
-unfolding rowsOf
-length-rows-in r = row-laws.length-items maxNodes r rowsAt
-
 -- one row more of a record's bytes
 pub with-row-read : (s r : List ℕ) (j : ℕ) → numberCount ≤ length s → j < maxNodes
     → (t : List ℕ) → t ≡ withPart (2 * j) s rowsFirst (rowNumbers (take j (rowsOf r))) → length t ≡ length s
     → (x y : ℕ) → x ≡ numberAt 8 r (rowsAt + j * rowSize) → y ≡ numberAt 8 r (rowsAt + j * rowSize + indexSize)
     → set (set t (rowsFirst + 2 * j) x) (rowsFirst + 2 * j + 1) y ≡ withPart (2 * (j + 1)) s rowsFirst (rowNumbers (take (j + 1) (rowsOf r)))
-unfolding rowsOf itemIn
+unfolding itemIn
 with-row-read s r j hs h t et lt x y ex ey =
-    let row : getD (rowsOf r) j zeroItem ≡ itemIn r (rowsAt + j * rowSize) = row-laws.getD-items maxNodes r rowsAt j h in
+    let row : getD (rowsOf r) j zeroItem ≡ itemIn r (rowsAt + j * rowSize) = row-at r j h in
     let ix : x ≡ getD (rowsOf r) j zeroItem .index .0 = ex ∙ sym (ap (λ (i : Item). i .index .0) row) in
     let iy : y ≡ getD (rowsOf r) j zeroItem .tag .0 = ey ∙ sym (ap (λ (i : Item). i .tag .0) row) in
     (λ i. set (set t (rowsFirst + 2 * j) (ix i)) (rowsFirst + 2 * j + 1) (iy i))
-    ∙ with-row-more s (rowsOf r) j hs (length-rows-in r) h t et lt
+    ∙ with-row-more s (rowsOf r) j hs (length-rows r) h t et lt
 
 -- the fields and then the rows are all
 pub with-all-numbers : (s : List ℕ) (next : ℕ) (f : Fields) (rows : List Item) → numberCount ≤ length s → length rows ≡ maxNodes
@@ -153,7 +149,7 @@ module _ (ns : List ℕ) (i : ℕ) where
 
 -- ---- reading rows
 
-pub length-items : (m : ℕ) (ns : List ℕ) (at : ℕ) → length (itemsFrom m ns at) ≡ m
+length-items : (m : ℕ) (ns : List ℕ) (at : ℕ) → length (itemsFrom m ns at) ≡ m
 unfolding itemsFrom
 length-items zero ns at = refl
 length-items (suc m) ns at = ap suc (length-items m ns (at + 2))
@@ -162,32 +158,15 @@ pub length-rows-from : (ns : List ℕ) → length (rowsFrom ns) ≡ maxNodes
 unfolding rowsFrom
 length-rows-from ns = length-items maxNodes ns rowsFirst
 
-pub getD-items : (m : ℕ) (ns : List ℕ) (at j : ℕ) → j < m → getD (itemsFrom m ns at) j zeroItem ≡ itemFrom ns (at + 2 * j)
+getD-items : (m : ℕ) (ns : List ℕ) (at j : ℕ) → j < m → getD (itemsFrom m ns at) j zeroItem ≡ itemFrom ns (at + 2 * j)
 unfolding itemsFrom
 getD-items zero ns at j h = absurd (not-suc-le-zero h)
 getD-items (suc m) ns at zero h = ap (itemFrom ns) (omega arith)
 getD-items (suc m) ns at (suc j) h = getD-items m ns (at + 2) j (le-of-suc-le-suc h) ∙ ap (itemFrom ns) (omega arith)
 
--- each row passed is what stands at its place
-unfoldable pub Passed : List ℕ → ℕ → List Item → Type 0
-Passed ns j items = (k : ℕ) → k < j → getD items k zeroItem ≡ itemFrom ns (rowsFirst + 2 * k)
-
-pub passed-none : (ns : List ℕ) (items : List Item) → Passed ns 0 items
-unfolding Passed
-passed-none ns items k h = let z : ⊥ = omega arith in absurd z
-
-pub passed-turn : (ns : List ℕ) (j : ℕ) (items : List Item) (i : Item) → j < length items → Passed ns j items → i ≡ itemFrom ns (rowsFirst + 2 * j)
-    → Passed ns (j + 1) (set items j i)
-unfolding Passed
-passed-turn ns j items i l p e k h =
-    by-order j k
-    (λ o. let q : k ≡ j = omega arith in rw q (getD-set-same items j i zeroItem l ∙ e))
-    (λ o. getD-set-other items j k i zeroItem (λ q. omega arith) ∙ p k o)
-
-pub passed-all : (ns : List ℕ) (items : List Item) → length items ≡ maxNodes → Passed ns maxNodes items → items ≡ rowsFrom ns
-unfolding Passed rowsFrom
-passed-all ns items l p =
-    ext-getD zeroItem items (rowsFrom ns) (l ∙ sym (length-items maxNodes ns rowsFirst)) (λ k h. p k (omega arith) ∙ sym (getD-items maxNodes ns rowsFirst k (omega arith)))
+pub row-from : (ns : List ℕ) (j : ℕ) → j < maxNodes → getD (rowsFrom ns) j zeroItem ≡ itemFrom ns (rowsFirst + 2 * j)
+unfolding rowsFrom
+row-from ns = getD-items maxNodes ns rowsFirst
 
 -- ---- what numbers say
 

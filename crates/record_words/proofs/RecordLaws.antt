@@ -16,7 +16,8 @@ use Rattle.record.specs.declared.kinds.Fields.{Fields}
 use Rattle.record.specs.Layout.{rowsOf, nextOf, nextAt, fieldsIn, layoutBytes, recordSize, recordOf, withRecord}
 use Rattle.record.proofs.LayoutLaws.{length-layout}
 use Rattle.record_words.specs.Numbers.{numberCount, fieldNumbers, rowNumbers, numbersOf, fieldsFrom, rowsFrom, stated, numbersAs, recordNumbers, numbersBytes, isFound, isStated}
-use Rattle.record_words.proofs.NumberLaws.{length-field-numbers, length-row-numbers, length-rows-from, length-rows-in}
+use Rattle.record_read.proofs.Reading.{length-rows}
+use Rattle.record_words.proofs.NumberLaws.{length-field-numbers, length-row-numbers, length-rows-from}
 use Rattle.record_words.proofs.ReadBackLaws.{bytes-straight}
 use Rattle.record.specs.Record.{readRecord}
 use Rattle.record.proofs.RecordLaws.{record-none, length-record-of, record-lent, record-back}
@@ -37,7 +38,7 @@ pub numbers-straight : (n : ℕ) (r ns : List ℕ) (next : ℕ) (f : Fields) →
 unfolding recordNumbers numbersAs
 numbers-straight n r ns next f l h en ef =
     let m = holds n r h in
-    with-all numberCount ns (numbersOf next f (rowsOf r)) l (length-numbers next f (rowsOf r) (length-rows-in r))
+    with-all numberCount ns (numbersOf next f (rowsOf r)) l (length-numbers next f (rowsOf r) (length-rows r))
     ∙ (λ j. numbersOf (en j) ((ef ∙ sym (m .fields)) j) (rowsOf r))
     ∙ sym (ap (λ (a : Reading). numbersAs a r) (m .found))
 

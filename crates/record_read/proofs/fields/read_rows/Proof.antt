@@ -1,16 +1,17 @@
--- `record_read::fields::read_rows` meets its contract. The invariant: each row passed is what stands at its place.
-use Rattle.record_read.proofs.Reading.{Passed, passed-none, passed-turn, passed-all}
-use lib.ListN.{length, length-set}
-use mathlib.Core.Path.{_≡_, refl}
+-- `record_read::fields::read_rows` meets its contract. The invariant: the items before place j are the record's rows.
+use mathlib.Core.Path.{refl, sym, _∙_}
+use denote.Ref.{now}
 use native.Mathlib.Omega.{arith}
 use Rattle.item.specs.Maxima.{maxNodes}
-use Prim.Native.Nat.{_-_, _≤_}
+use Prim.Native.Nat.{_-_}
+use Rattle.record.specs.Layout.{rowsOf}
+use Rattle.record_read.proofs.Reading.{RowsRead, row-read, rows-read, length-rows, row-at}
 use borrow.Author.Needs.{needs}
 use Rattle.record_read.proofs.fields.read_rows.Statement.{statement}
 use Rattle.record_read.proofs.fields.read_rows.Tie as tie
 
 abbrev Inv-loop : tie.InvT-loop
-Inv-loop r items₀ j₀ items j = (j ≤ maxNodes) × (length items ≡ maxNodes) × Passed r j items
+Inv-loop r items₀ j₀ items j = RowsRead (rowsOf r) j items
 
 abbrev μ-loop : tie.MeasureT-loop
 μ-loop r items₀ j₀ items j = maxNodes - j
@@ -19,7 +20,7 @@ zero-requires : tie.Need-zero-requires Inv-loop μ-loop
 zero-requires c κs = search needs
 
 loop-holds : tie.Need-loop-holds Inv-loop μ-loop
-loop-holds c = (omega arith, refl, passed-none _ _)
+loop-holds c = (omega arith, refl, refl)
 
 mul-read-item : tie.Need-mul-read-item Inv-loop μ-loop
 mul-read-item c = search needs
@@ -43,10 +44,16 @@ loop-less : tie.Need-loop-less Inv-loop μ-loop
 loop-less c = search needs
 
 loop-again : tie.Need-loop-again Inv-loop μ-loop
-loop-again c = let l = c .before .before .loop in (omega arith, simp length-set (l .inv .1), passed-turn _ _ _ _ (omega arith) (l .inv .2) (c .read-item .ensures))
+loop-again c =
+    let l = c .before .before .loop in
+    let r = now (c .before .before .before .before .before .args .r) in
+    row-read (rowsOf r) (length-rows r) (l .j) (l .items) (l .inv) (omega arith) (c .read-item .ensures ∙ sym (row-at r (l .j) (omega arith)))
 
 returns : tie.Need-returns Inv-loop μ-loop
-returns c = let l = c .before .loop in let e : l .j ≡ 15 = omega arith in passed-all _ _ (l .inv .1) (rw e at (l .inv .2))
+returns c =
+    let l = c .before .loop in
+    let r = now (c .before .before .before .before .args .r) in
+    rows-read (rowsOf r) (length-rows r) (l .j) (l .items) (l .inv) (omega arith)
 
 pub read-rows-spec : {M : Type 1} → statement M
 read-rows-spec =

@@ -5,7 +5,8 @@ use mathlib.Core.Path.{sym}
 use Rattle.endian.proofs.PartLaws.{with-none}
 use Rattle.record.specs.Layout.{rowsOf}
 use Rattle.record_words.specs.Numbers.{numberCount}
-use Rattle.record_words.proofs.NumberLaws.{length-rows-in, with-all-numbers}
+use Rattle.record_read.proofs.Reading.{length-rows}
+use Rattle.record_words.proofs.NumberLaws.{with-all-numbers}
 use borrow.Author.Needs.{needs}
 use Rattle.record_words.proofs.put.put.Statement.{statement}
 use Rattle.record_words.proofs.put.put.Tie as tie
@@ -27,7 +28,7 @@ returns-2 c =
     let f = c .before .before .before .before .before .before in
     let a = f .before .before .before .before .before .args in
     let r = now (a .r) in
-    rw (c .before .before .put-rows .ensures, f .put-fields .ensures) (with-all-numbers (now (a .numbers)) (a .next) (a .fields) (rowsOf r) (omega arith) (length-rows-in r))
+    rw (c .before .before .put-rows .ensures, f .put-fields .ensures) (with-all-numbers (now (a .numbers)) (a .next) (a .fields) (rowsOf r) (omega arith) (length-rows r))
 
 pub put-spec : {M : Type 1} → statement M
 put-spec =

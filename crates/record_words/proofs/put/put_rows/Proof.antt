@@ -12,7 +12,8 @@ use Rattle.endian.specs.Part.{withPart}
 use Rattle.endian.proofs.PartLaws.{with-nothing}
 use Rattle.record.specs.Layout.{rowsOf}
 use Rattle.record_words.specs.Numbers.{rowsFirst, rowsCount, numberCount, rowNumbers}
-use Rattle.record_words.proofs.NumberLaws.{length-rows-in, with-row-read}
+use Rattle.record_read.proofs.Reading.{length-rows}
+use Rattle.record_words.proofs.NumberLaws.{with-row-read}
 use borrow.Author.Needs.{needs}
 use Rattle.record_words.proofs.put.put_rows.Statement.{statement}
 use Rattle.record_words.proofs.put.put_rows.Tie as tie
@@ -87,7 +88,7 @@ returns c =
     let e : l .j ≡ 15 = omega arith in
     l .inv .3
     ∙ ap (λ (k : ℕ). withPart (2 * k) s rowsFirst (rowNumbers (take k rows))) e
-    ∙ ap (λ (t : List Item). withPart rowsCount s rowsFirst (rowNumbers t)) (take-all 15 rows (omega (arith, length-rows-in (now (a .r)))))
+    ∙ ap (λ (t : List Item). withPart rowsCount s rowsFirst (rowNumbers t)) (take-all 15 rows (omega (arith, length-rows (now (a .r)))))
 
 pub put-rows-spec : {M : Type 1} → statement M
 put-rows-spec =

@@ -1,16 +1,18 @@
--- `record_words::rows::rows_in` meets its contract. The invariant: each row passed is what stands at its place.
-use Prim.Native.Nat.{_-_, _≤_}
+-- `record_words::rows::rows_in` meets its contract. The invariant: the items before place j are the rows of the numbers.
+use Prim.Native.Nat.{_-_}
 use native.Mathlib.Omega.{arith}
-use mathlib.Core.Path.{_≡_, refl}
-use lib.ListN.{length, length-set}
+use mathlib.Core.Path.{refl, sym, _∙_}
+use denote.Ref.{now}
 use Rattle.item.specs.Maxima.{maxNodes}
-use Rattle.record_words.proofs.NumberLaws.{Passed, passed-none, passed-turn, passed-all}
+use Rattle.record_read.proofs.Reading.{RowsRead, row-read, rows-read}
+use Rattle.record_words.specs.Numbers.{rowsFrom}
+use Rattle.record_words.proofs.NumberLaws.{length-rows-from, row-from}
 use borrow.Author.Needs.{needs}
 use Rattle.record_words.proofs.rows.rows_in.Statement.{statement}
 use Rattle.record_words.proofs.rows.rows_in.Tie as tie
 
 abbrev Inv-loop : tie.InvT-loop
-Inv-loop numbers items₀ j₀ items j = (j ≤ maxNodes) × (length items ≡ maxNodes) × Passed numbers j items
+Inv-loop numbers items₀ j₀ items j = RowsRead (rowsFrom numbers) j items
 
 abbrev μ-loop : tie.MeasureT-loop
 μ-loop numbers items₀ j₀ items j = maxNodes - j
@@ -19,7 +21,7 @@ zero-requires : tie.Need-zero-requires Inv-loop μ-loop
 zero-requires c κs = search needs
 
 loop-holds : tie.Need-loop-holds Inv-loop μ-loop
-loop-holds c = (omega arith, refl, passed-none _ _)
+loop-holds c = (omega arith, refl, refl)
 
 mul-at : tie.Need-mul-at Inv-loop μ-loop
 mul-at c = search needs
@@ -43,10 +45,16 @@ loop-less : tie.Need-loop-less Inv-loop μ-loop
 loop-less c = search needs
 
 loop-again : tie.Need-loop-again Inv-loop μ-loop
-loop-again c = let l = c .before .before .loop in (omega arith, simp length-set (l .inv .1), passed-turn _ _ _ _ (omega arith) (l .inv .2) (c .item-in .ensures))
+loop-again c =
+    let l = c .before .before .loop in
+    let ns = now (c .before .before .before .before .before .args .numbers) in
+    row-read (rowsFrom ns) (length-rows-from ns) (l .j) (l .items) (l .inv) (omega arith) (c .item-in .ensures ∙ sym (row-from ns (l .j) (omega arith)))
 
 returns : tie.Need-returns Inv-loop μ-loop
-returns c = let l = c .before .loop in let e : l .j ≡ 15 = omega arith in passed-all _ _ (l .inv .1) (rw e at (l .inv .2))
+returns c =
+    let l = c .before .loop in
+    let ns = now (c .before .before .before .before .args .numbers) in
+    rows-read (rowsFrom ns) (length-rows-from ns) (l .j) (l .items) (l .inv) (omega arith)
 
 pub rows-in-spec : {M : Type 1} → statement M
 rows-in-spec =
