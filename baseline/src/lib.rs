@@ -3,21 +3,14 @@
 //! The modules build on one another in this order: `layout` reads and writes one
 //! message record, `store` keeps 240 of them on chains, `node` decides what one
 //! node does, `group` joins a table of nodes with a store, and `drill` runs a
-//! script of calls. `scripts` makes scripts, stores and records to test with,
-//! `smallest` makes a failing script small, `compare` looks for a difference between two implementations, and `race`
-//! measures them.
+//! script of calls.
 
 #![forbid(unsafe_code)]
 
-pub mod compare;
-pub mod contender;
 pub mod drill;
 pub mod group;
 pub mod layout;
 pub mod node;
-pub mod race;
-pub mod scripts;
-pub mod smallest;
 pub mod store;
 
 /// The greatest number of nodes in a group, and the number of rows a node keeps.

@@ -1,7 +1,6 @@
 //! One record's bytes, kind by kind, written by hand.
 
 use baseline::layout::{read_record, write_record, Fault, Letter, Message, RECORD_BYTES};
-use baseline::scripts::{self, Random};
 use baseline::{Attempt, Incarnation, Index, Item, MAX_NODES};
 
 const ITEM: Item = Item { index: Index(0x0102_0304_0506_0708), tag: 0x1112_1314_1516_1718 };
@@ -86,35 +85,4 @@ fn lengths_and_kinds() {
     let mut short = [9; RECORD_BYTES - 1];
     assert_eq!(write_record(&mut short, &letter(Message::Fetch), 3), Err(Fault::Length));
     assert_eq!(short, [9; RECORD_BYTES - 1]);
-}
-
-/// The bytes a kind uses besides next, kind and the two ends.
-fn is_used(kind: u8, n: usize, at: usize) -> bool {
-    match at {
-        0..=7 => true,
-        8..=11 => !matches!(kind, 1 | 5),
-        12..=31 => kind < 5,
-        _ => kind == 6 && at < 32 + 16 * n,
-    }
-}
-
-#[test]
-fn every_byte_of_every_kind() {
-    let mut random = Random::new(1);
-    for n in [3, 5, 7, 9, 11, 13, 15] {
-        for kind in 1..=6 {
-            let record = scripts::record(&mut random, kind, n);
-            assert!(read_record(&record, n).is_ok());
-            for at in (0..RECORD_BYTES).filter(|at| *at != 2) {
-                let mut damaged = record;
-                damaged[at] ^= 1 << random.below(8);
-                let read = read_record(&damaged, n);
-                assert_eq!(
-                    read.is_ok(),
-                    is_used(kind, n.into(), at),
-                    "kind {kind} n {n} byte {at}"
-                );
-            }
-        }
-    }
 }

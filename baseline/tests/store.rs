@@ -1,7 +1,6 @@
 //! Soundness of stores, damaged by hand and at every byte, and the chains.
 
 use baseline::layout::{Letter, Message, RECORD_BYTES};
-use baseline::scripts::{self, Random};
 use baseline::store::{self, is_sound, is_sound_for, Store, STORE_BYTES};
 use baseline::{Incarnation, Refusal};
 
@@ -213,17 +212,4 @@ fn put_refuses_without_change() {
     Store::open(&mut bytes).unwrap().put(&fetch(0, 1)).unwrap();
     let put = Store::open(&mut bytes).unwrap().put(&fetch(0, 1));
     assert_eq!((put, store::free_count(&bytes)), (Err(Refusal::NoRoom), Some(0)));
-}
-
-#[test]
-fn generated_stores_are_sound_until_damaged() {
-    let mut random = Random::new(5);
-    let mut unsound = 0;
-    for round in 0..200 {
-        let (n, mut bytes) = scripts::store(&mut random, 30 + round);
-        assert!(is_sound_for(&bytes, n));
-        scripts::damage_store(&mut random, &mut bytes);
-        unsound += usize::from(!is_sound(&bytes));
-    }
-    assert!((100..200).contains(&unsound), "{unsound}");
 }

@@ -2,8 +2,9 @@
 //! order, and some are then linked wrongly.
 
 use baseline::layout::{self, Letter, Record, RECORD_BYTES};
-use baseline::scripts::{self, Random};
 use baseline::store::{RECORDS, STORE_BYTES};
+
+use crate::scripts::{self, Random};
 
 /// A sound store of n nodes: every record from 1 on stands at a random place
 /// of a random chain.

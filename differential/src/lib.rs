@@ -1,18 +1,25 @@
 //! Compares the proved library with the baseline, which was written from the
 //! scope document alone, and races the two.
 //!
-//! `linked` asks the library what a contender is asked, `search` looks for an
-//! input on which the two part, `chains` makes stores for it, `census` counts
-//! what the inputs reached, `report` prints a difference, and `timing` times
-//! both in turn.
+//! `scripts` makes scripts, stores and records from a seed, and `chains` makes
+//! stores with chains of any order. `contender` is what an implementation is
+//! asked, `linked` asks the library, and `program` runs a drill program.
+//! `compare` asks two the same, `smallest` makes a script on which they part
+//! small, `search` does so for many inputs, `census` counts what these reached,
+//! and `report` prints a difference. `timing` times both in turn.
 
 #![forbid(unsafe_code)]
 
 pub mod census;
 pub mod chains;
+pub mod compare;
+pub mod contender;
 pub mod linked;
+pub mod program;
 pub mod report;
+pub mod scripts;
 pub mod search;
+pub mod smallest;
 pub mod timing;
 
 /// The sizes a group may have.

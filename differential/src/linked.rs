@@ -1,9 +1,10 @@
 //! The proved library as a contender.
 
-use baseline::contender::Contender;
 use baseline::layout::{Letter, Message, RECORD_BYTES};
 use baseline::{Attempt, Incarnation, Index, Item};
 use yagvost::Record;
+
+use crate::contender::Contender;
 
 /// The library, with room for answers that is kept from script to script.
 #[derive(Default)]
@@ -12,10 +13,6 @@ pub struct Linked {
 }
 
 impl Contender for Linked {
-    fn name(&self) -> &str {
-        "library"
-    }
-
     fn run_script(&mut self, script: &[u8], out: &mut Vec<u8>) {
         let wanted = yagvost::room_for(script);
         if self.room.len() < wanted {

@@ -1,15 +1,15 @@
-//! Looks for an input on which the library and the baseline part, and counts
-//! what the inputs reached.
+//! Looks for an input on which the baseline and the library part, or the
+//! baseline and another contender, and counts what the inputs reached.
 
-use baseline::compare::{Comparison, Difference};
-use baseline::contender::Baseline;
 use baseline::layout::{self, RECORD_BYTES};
-use baseline::scripts::{self, Random};
 use baseline::store::{self, RECORDS, STORE_BYTES};
 
 use crate::census::Census;
 use crate::chains;
+use crate::compare::{Comparison, Difference};
+use crate::contender::Contender;
 use crate::linked::Linked;
+use crate::scripts::{self, Random};
 use crate::{KINDS, SIZES};
 
 /// How much one round compares.
@@ -31,20 +31,20 @@ pub struct Extent {
 
 /// A search under way.
 pub struct Search {
-    baseline: Baseline,
-    linked: Linked,
+    two: Box<dyn Contender>,
     random: Random,
     pub census: Census,
 }
 
 impl Search {
+    /// A search among the library's answers.
     pub fn new(seed: u64) -> Search {
-        Search {
-            baseline: Baseline,
-            linked: Linked::default(),
-            random: Random::new(seed),
-            census: Census::default(),
-        }
+        Search::against(Linked::default(), seed)
+    }
+
+    /// A search among another contender's answers.
+    pub fn against(two: impl Contender + 'static, seed: u64) -> Search {
+        Search { two: Box::new(two), random: Random::new(seed), census: Census::default() }
     }
 
     /// One round of everything; the first difference, if any.
@@ -64,11 +64,8 @@ impl Search {
     /// lines; with each one in which rows part, and one that fills the store.
     pub fn scripts(&mut self, n: u8, count: usize, lines: usize) -> Option<Difference> {
         (0..count).find_map(|_| {
-            let length = 1 + self.random.below(lines);
-            let script = scripts::script_for(&mut self.random, n, length);
-            let parted = scripts::parted_rows(&mut self.random, n);
-            let full = scripts::full_store(&mut self.random, n);
-            [script, parted, full].iter().find_map(|script| self.script(script))
+            let scripts = scripts::scripts_for(&mut self.random, n, lines);
+            scripts.iter().find_map(|script| self.script(script))
         })
     }
 
@@ -136,7 +133,7 @@ impl Search {
     /// numbers of a record, in a store, at the library's boundary.
     pub fn records(&mut self, count: usize) -> Option<Difference> {
         for _ in 0..count {
-            let found = self.comparison().records(1);
+            let found = self.comparison().records();
             let numbers = || SIZES.into_iter().find_map(|n| self.numbers(n));
             if let Some(found) = found.or_else(numbers) {
                 return Some(found);
@@ -168,7 +165,7 @@ impl Search {
 
     fn comparison(&mut self) -> Comparison<'_> {
         let random = Random::new(self.random.number());
-        Comparison { one: &mut self.baseline, two: &mut self.linked, random }
+        Comparison { two: &mut *self.two, random }
     }
 }
 

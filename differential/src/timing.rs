@@ -5,14 +5,15 @@ use std::hint::black_box;
 use std::io;
 use std::time::{Duration, Instant};
 
-use baseline::contender::{run_program, Baseline, Contender};
 use baseline::layout::{self, or_of_words, RECORD_BYTES};
-use baseline::scripts::{self, Random};
 use baseline::store::STORE_BYTES;
 
 use yagvost::Record;
 
+use crate::contender::{Baseline, Contender};
 use crate::linked::{letter, record, Linked};
+use crate::program;
+use crate::scripts::{self, Random};
 
 /// How often each measure is taken, and for how long.
 #[derive(Clone, Copy, Debug)]
@@ -284,9 +285,9 @@ pub fn end_to_end(programs: [&str; 2], n: u8, lines: usize) -> io::Result<Pair> 
     let script = scripts::settling(n, 0, lines);
     let lines = script.iter().filter(|byte| **byte == b'\n').count();
     let mut pair = Pair { what: format!("line through the program, n {n}"), ..Pair::default() };
-    let run = |program: &str| {
+    let run = |name: &str| {
         let start = Instant::now();
-        let answers = run_program(program, &script)?;
+        let answers = program::run(name, &script)?;
         Ok::<_, io::Error>((start.elapsed().as_nanos() as f64 / lines as f64, answers))
     };
     for _ in 0..9 {

@@ -2,16 +2,16 @@
 //! group size, on stores sound and damaged, on records sound and damaged. Each
 //! test also counts what it reached, and fails if something never came.
 
-use baseline::compare::Difference;
-use baseline::scripts::{script_for, Random};
 use differential::census::reachable;
+use differential::compare::Difference;
 use differential::report::report;
+use differential::scripts::{script_for, Random};
 use differential::search::Search;
 use differential::{KINDS, SIZES};
 
 fn must_agree(found: Option<Difference>) {
     if let Some(difference) = found {
-        panic!("the two part on {}", report(&difference));
+        panic!("the two part on {}", report(&difference, "library"));
     }
 }
 

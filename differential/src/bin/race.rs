@@ -6,7 +6,7 @@
 use std::fs;
 use std::process::ExitCode;
 
-use baseline::scripts::settling;
+use differential::scripts::settling;
 use differential::timing::{end_to_end, Effort, Form, Pair, Stopwatch};
 use differential::KINDS;
 

@@ -1,11 +1,12 @@
 //! The comparison finds no difference where there is none, and finds planted
 //! ones.
 
-use baseline::compare::{Comparison, Difference, Extent};
-use baseline::contender::{Baseline, Contender};
 use baseline::layout::{Letter, Message};
-use baseline::scripts::{settling, store_with, Random};
 use baseline::store::is_sound_for;
+use differential::compare::Difference;
+use differential::contender::{Baseline, Contender};
+use differential::scripts::{settling, store_with};
+use differential::search::{Extent, Search};
 
 /// The baseline with one planted fault.
 #[derive(Clone, Copy, PartialEq, Eq)]
@@ -21,10 +22,6 @@ enum Planted {
 }
 
 impl Contender for Planted {
-    fn name(&self) -> &str {
-        "planted"
-    }
-
     fn run_script(&mut self, script: &[u8], out: &mut Vec<u8>) {
         let mut answers = Vec::new();
         Baseline.run_script(script, &mut answers);
@@ -60,27 +57,26 @@ impl Contender for Planted {
     }
 }
 
-const EXTENT: Extent = Extent { scripts: 60, lines: 300, stores: 10, whole_stores: 1, records: 1 };
+const EXTENT: Extent =
+    Extent { scripts: 8, lines: 300, stores: 2, chains: 2, offsets: 1, records: 1 };
 
-fn compare(two: &mut dyn Contender) -> Option<Difference> {
-    Comparison { one: &mut Baseline, two, random: Random::new(3) }.run(EXTENT)
+fn compare(two: impl Contender + 'static) -> Option<Difference> {
+    Search::against(two, 3).round(EXTENT)
 }
 
 #[test]
 fn no_difference_from_itself() {
-    assert_eq!(compare(&mut Baseline), None);
+    assert_eq!(compare(Baseline), None);
 }
 
 #[test]
 fn planted_faults_are_found() {
-    let Some(Difference::Script { script, two, .. }) = compare(&mut Planted::Answer) else {
-        panic!()
-    };
+    let Some(Difference::Script { script, two, .. }) = compare(Planted::Answer) else { panic!() };
     let lines = script.split(|byte| *byte == b'\n').count();
     assert!(two.ends_with(b"refused 10\n") && lines < 25, "{}", script.escape_ascii());
-    assert!(matches!(compare(&mut Planted::LastByte), Some(Difference::Store { .. })));
-    assert!(matches!(compare(&mut Planted::StrayAttempt), Some(Difference::Read { .. })));
-    assert!(matches!(compare(&mut Planted::Unwritten), Some(Difference::Write { .. })));
+    assert!(matches!(compare(Planted::LastByte), Some(Difference::Store { .. })));
+    assert!(matches!(compare(Planted::StrayAttempt), Some(Difference::Read { .. })));
+    assert!(matches!(compare(Planted::Unwritten), Some(Difference::Write { .. })));
 }
 
 #[test]

@@ -1,13 +1,12 @@
 //! Things to test with, all from a seed: drill scripts that crash, restart,
 //! retry, lose, repeat and delay messages at every place; stores and records,
-//! sound or damaged; and a search for the smallest script that still shows a
-//! difference.
+//! sound or damaged.
 
-use crate::drill::Drill;
-use crate::layout::{self, Letter, Message, Record, RECORD_BYTES};
-use crate::node::{Phase, Stage};
-use crate::store::{self, Store, RECORDS, STORE_BYTES};
-use crate::{Attempt, Incarnation, Index, Item, MAX_NODES};
+use baseline::drill::Drill;
+use baseline::layout::{self, Letter, Message, Record, RECORD_BYTES};
+use baseline::node::{Phase, Stage};
+use baseline::store::{self, Store, RECORDS, STORE_BYTES};
+use baseline::{Attempt, Incarnation, Index, Item, MAX_NODES};
 
 /// A small random number generator (splitmix64): the same seed gives the same
 /// numbers everywhere.
@@ -142,6 +141,14 @@ pub fn script_for(random: &mut Random, n: u8, lines: usize) -> Vec<u8> {
         author.script.extend_from_slice(tail);
     }
     author.script
+}
+
+/// Three scripts that begin with this group size: one of any length up to so
+/// many lines, one in which rows part, and one that fills the store.
+pub fn scripts_for(random: &mut Random, n: u8, lines: usize) -> [Vec<u8>; 3] {
+    let length = 1 + random.below(lines);
+    let script = script_for(random, n, length);
+    [script, parted_rows(random, n), full_store(random, n)]
 }
 
 /// A script in which the rows of some nodes part and another node returns.

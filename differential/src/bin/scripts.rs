@@ -1,10 +1,10 @@
-//! Prints a script of random but likely calls: `baseline-scripts SEED [LINES]`.
+//! Prints a script of random but likely calls: `scripts SEED [LINES]`.
 //! The same seed and length give the same script.
 
 use std::io::{self, Write};
 use std::process::ExitCode;
 
-use baseline::scripts::{script, Random};
+use differential::scripts::{script, Random};
 
 fn main() -> ExitCode {
     let numbers: Option<Vec<u64>> =
@@ -13,7 +13,7 @@ fn main() -> ExitCode {
         Some([seed]) => (*seed, 1000),
         Some([seed, lines]) => (*seed, *lines),
         _ => {
-            eprintln!("usage: baseline-scripts SEED [LINES]");
+            eprintln!("usage: scripts SEED [LINES]");
             return ExitCode::from(2);
         }
     };

@@ -4,10 +4,10 @@
 //! record means the message in it, so if fewer messages were sent before, the
 //! message stands in another record and the line names that one.
 
-use crate::drill::{self, Drill, Line};
-use crate::group::Call;
-use crate::layout::RECORD_BYTES;
-use crate::store::RECORDS;
+use baseline::drill::{self, Drill, Line};
+use baseline::group::Call;
+use baseline::layout::RECORD_BYTES;
+use baseline::store::RECORDS;
 
 /// A message, by the step that sent it and its addressee.
 type MessageId = (usize, u8);
