@@ -11,6 +11,10 @@
 #include <stddef.h>
 #include <stdint.h>
 
+#ifdef __cplusplus
+extern "C" {
+#endif
+
 /* A message store is 240 records of 272 bytes; record 0 is its head. */
 #define YAGVOST_RECORD_BYTES 272
 #define YAGVOST_RECORDS 240
@@ -40,5 +44,9 @@ bool yagvost_read_record(const uint8_t *bytes, size_t length, uint64_t record, u
  * or is not 0 though a message of this kind has no use for it, or where count is another. */
 bool yagvost_write_record(uint8_t *bytes, size_t length, uint64_t record, uint64_t n, const uint64_t *numbers,
                           size_t count);
+
+#ifdef __cplusplus
+}
+#endif
 
 #endif
