@@ -28,7 +28,7 @@ extern "C" {
 #define YAGVOST_NUMBERS 39
 
 /* Runs a drill script, for a group of its own, and prints its answers to out. Gives the number of bytes printed, or
- * SIZE_MAX where out has no room: YAGVOST_LINE_ROOM bytes for every line are enough, an unended last one included. */
+ * SIZE_MAX where out has no room for all: enough is YAGVOST_LINE_ROOM * (number of line feeds in the script + 1). */
 size_t yagvost_run_script(const uint8_t *script, size_t script_length, uint8_t *out, size_t out_length);
 
 /* Whether these bytes are a sound message store of a group of n nodes. */

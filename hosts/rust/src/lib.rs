@@ -25,13 +25,13 @@ const LINE_ROOM: usize = 72;
 /// The answers to a drill script, run for a group of its own.
 pub fn run_script(script: &[u8]) -> Vec<u8> {
     let mut out = vec![0; room_for(script)];
-    let printed = run_script_into(script, &mut out).expect("room for every line");
+    let printed = run_script_into(script, &mut out).expect("enough room");
     out.truncate(printed);
     out
 }
 
-/// As `run_script`, into bytes that the caller lends: how many were printed,
-/// or nothing if there may be more than fit. `room_for` says how many do.
+/// As `run_script`, into bytes that the caller lends: how many were printed, or
+/// nothing if the bytes are fewer than `room_for` the script.
 pub fn run_script_into(script: &[u8], out: &mut [u8]) -> Option<usize> {
     if out.len() < room_for(script) {
         return None;
@@ -40,10 +40,11 @@ pub fn run_script_into(script: &[u8], out: &mut [u8]) -> Option<usize> {
     (printed <= out.len()).then_some(printed)
 }
 
-/// The room that surely holds the answers to a script.
+/// Room that is always enough for the answers to a script: 72 bytes for each
+/// line feed in it, and once more.
 pub fn room_for(script: &[u8]) -> usize {
-    let ended = script.iter().filter(|byte| **byte == b'\n').count();
-    (ended + 1) * LINE_ROOM
+    let line_feeds = script.iter().filter(|byte| **byte == b'\n').count();
+    LINE_ROOM * (line_feeds + 1)
 }
 
 /// Are these bytes a sound message store of a group of n nodes?
