@@ -1,5 +1,5 @@
 //! Races the library against the baseline, in one process and on the same
-//! inputs, and prints the tables of docs/PERFORMANCE.md:
+//! inputs, and prints tables as they stand under differential/results:
 //! `race [BASELINE-DRILL LIBRARY-DRILL]`. With the two drill programs it also
 //! prints the time of a line end to end.
 
