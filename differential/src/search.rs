@@ -42,7 +42,8 @@ impl Search {
         Search::against(Linked::default(), seed)
     }
 
-    /// A search among another contender's answers.
+    /// A search among another contender's answers; the numbers of a record are
+    /// still the library's.
     pub fn against(two: impl Contender + 'static, seed: u64) -> Search {
         Search { two: Box::new(two), random: Random::new(seed), census: Census::default() }
     }
