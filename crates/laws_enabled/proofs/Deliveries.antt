@@ -29,7 +29,7 @@ use Rattle.protocol.specs.declared.Refusal.the-variants.{NotTaken, Stale, Count
 use Rattle.protocol.specs.declared.Stage.the-variants.{Confirming}
 use Rattle.protocol.specs.declared.Step.{Step}
 use Rattle.protocol.specs.declared.Verdict.{Verdict}
-use Rattle.protocol.proofs.InView.{Shaped}
+use Rattle.protocol.specs.Shaped.{Shaped}
 use Rattle.laws_enabled.specs.Acting.{acted, isRoomFor, rowTakes, takes, sending}
 use Rattle.laws_enabled.proofs.Steps.{refused-acts, quiet-acts, store-acts, back-acts, confirm-acts, asked-half}
 

@@ -25,7 +25,8 @@ use Rattle.protocol.specs.declared.Refusal.{Refusal}
 use Rattle.protocol.specs.declared.Sends.the-variants as sends
 use Rattle.protocol.specs.declared.Stage.the-variants.{Confirming}
 use Rattle.protocol.specs.declared.Step.{Step}
-use Rattle.protocol.proofs.InView.{Shaped, number-is, size-is}
+use Rattle.protocol.specs.Shaped.{Shaped}
+use Rattle.protocol.proofs.InView.{number-is, size-is}
 use Rattle.laws_node.proofs.PhaseCases.{storing-cases}
 use Rattle.laws_node.proofs.Soundly.{read-sound}
 use Rattle.laws_enabled.specs.Acting.{acted, isRoomFor}

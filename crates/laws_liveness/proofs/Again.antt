@@ -18,6 +18,7 @@ use Rattle.protocol.specs.Node.{rowOf, ownItem, storingBegun}
 use Rattle.operations.specs.Operation.{Result, carriedOut, atNode, onSound, perform}
 use Rattle.protocol.specs.Phase.{isUp, isDown, isIdle, isFetching, atStage}
 use Rattle.protocol.specs.Table.{nodeAt}
+use Rattle.protocol.specs.Shaped.{Shaped}
 use Rattle.protocol.proofs.TableLaws.{node-sound}
 use Rattle.protocol.specs.Write.{sendStore, retried, nothingToRetry, retryStep}
 use Rattle.protocol.specs.declared.Event.the-variants as event
@@ -25,7 +26,7 @@ use Rattle.protocol.specs.declared.Node.{Node}
 use Rattle.protocol.specs.declared.Phase.{Phase}
 use Rattle.protocol.specs.declared.Phase.the-variants.{Up}
 use Rattle.protocol.specs.declared.Stage.the-variants.{Storing}
-use Rattle.protocol.proofs.InView.{Shaped, number-is, odd-size, size-fits}
+use Rattle.protocol.proofs.InView.{number-is, odd-size, size-fits}
 use Rattle.laws_node.proofs.PhaseCases.{up-cases}
 use Rattle.laws_runs.proofs.Keeps.{Decided, group-valid, group-table, retry-decided, performed-is, performs}
 use Rattle.laws_liveness.specs.Laws.{Peers, BeginsAndGetsThrough, MayRetry, RetryGetsThrough}

@@ -29,7 +29,8 @@ use Rattle.protocol.specs.declared.Answer.{Answer}
 use Rattle.protocol.specs.declared.Answer.the-variants as answer
 use Rattle.protocol.specs.declared.Node.{Node}
 use Rattle.protocol.specs.declared.Sends.the-variants as sends
-use Rattle.protocol.proofs.InView.{Shaped, number-is, size-is, size-fits}
+use Rattle.protocol.specs.Shaped.{Shaped}
+use Rattle.protocol.proofs.InView.{number-is, size-is, size-fits}
 use Rattle.laws_enabled.proofs.Sent.{one-sent}
 use Rattle.laws_runs.specs.Laws.{LeavesSound}
 use Rattle.laws_runs.proofs.Keeps.{group-valid}

@@ -35,8 +35,9 @@ use Rattle.protocol.specs.declared.Sends.the-variants as sends
 use Rattle.protocol.specs.declared.Stage.the-variants.{Storing, Confirming}
 use Rattle.protocol.specs.declared.Step.{Step}
 use Rattle.protocol.specs.declared.Verdict.the-variants as verdict
+use Rattle.protocol.specs.Shaped.{Shaped}
 use Rattle.protocol.proofs.Counts.{peerUnder}
-use Rattle.protocol.proofs.InView.{Shaped, size-is}
+use Rattle.protocol.proofs.InView.{size-is}
 use Rattle.laws_node.proofs.Soundly.{read-sound}
 use Rattle.laws_enabled.specs.Acting.{rowTakes}
 use Rattle.laws_enabled.proofs.Sent.{nothing-sent, asked-sent}

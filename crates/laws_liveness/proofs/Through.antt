@@ -26,6 +26,7 @@ use Rattle.protocol.specs.Phase.{isUp, atStage}
 use Rattle.protocol.specs.Sound.{soundNode}
 use Rattle.protocol.specs.Storing.{sendConfirm, storeSuccess}
 use Rattle.protocol.specs.Table.{nodeAt}
+use Rattle.protocol.specs.Shaped.{Shaped}
 use Rattle.protocol.proofs.TableLaws.{node-sound}
 use Rattle.protocol.specs.declared.Answer.{Answer}
 use Rattle.protocol.specs.declared.Answer.the-variants as answer
@@ -34,7 +35,7 @@ use Rattle.protocol.specs.declared.Peer.{Peer}
 use Rattle.protocol.specs.declared.Sends.the-variants as sends
 use Rattle.protocol.specs.declared.Stage.the-variants.{Confirming}
 use Rattle.protocol.proofs.Counts.{peerUnder, none-present}
-use Rattle.protocol.proofs.InView.{Shaped, number-is, size-is, size-fits}
+use Rattle.protocol.proofs.InView.{number-is, size-is, size-fits}
 use Rattle.laws_runs.specs.Laws.{LeavesSound}
 use Rattle.laws_runs.proofs.Keeps.{group-valid, group-table}
 use Rattle.laws_enabled.specs.Acting.{rowTakes}

@@ -27,6 +27,7 @@ use Rattle.protocol.specs.Outgoing.{outgoing}
 use Rattle.protocol.specs.Sound.{soundNode}
 use Rattle.protocol.specs.Storing.{isCounted}
 use Rattle.protocol.specs.Table.{nodeAt}
+use Rattle.protocol.specs.Shaped.{Shaped}
 use Rattle.protocol.proofs.TableLaws.{node-sound}
 use Rattle.protocol.specs.declared.Answer.{Answer}
 use Rattle.protocol.specs.declared.Answer.the-variants as answer
@@ -35,7 +36,7 @@ use Rattle.protocol.specs.declared.Peer.{Peer}
 use Rattle.protocol.specs.declared.Sends.the-variants as sends
 use Rattle.protocol.specs.declared.Step.{Step}
 use Rattle.protocol.proofs.Counts.{peerUnder}
-use Rattle.protocol.proofs.InView.{Shaped, size-is, size-fits}
+use Rattle.protocol.proofs.InView.{size-is, size-fits}
 use Rattle.laws_enabled.proofs.Sent.{nothing-sent}
 use Rattle.laws_runs.specs.Laws.{LeavesSound}
 use Rattle.laws_runs.proofs.Keeps.{group-valid, group-table, deliver-decided}

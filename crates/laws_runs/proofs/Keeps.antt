@@ -41,6 +41,7 @@ use Rattle.protocol.specs.Node.{rowItems}
 use Rattle.protocol.specs.Outgoing.{outgoing}
 use Rattle.protocol.specs.Sound.{soundNode}
 use Rattle.protocol.specs.Table.{noNode, nodeAt, soundTable}
+use Rattle.protocol.specs.Shaped.{Shaped}
 use Rattle.protocol.proofs.TableLaws.{table-count, every-sound, node-sound}
 use Rattle.protocol.specs.Write.{writeStep, retryStep, crashStep, startStep}
 use Rattle.protocol.specs.declared.Answer.{Answer}
@@ -48,11 +49,12 @@ use Rattle.protocol.specs.declared.Event.{Event}
 use Rattle.protocol.specs.declared.Event.the-variants as event
 use Rattle.protocol.specs.declared.Node.{Node}
 use Rattle.protocol.specs.declared.Step.{Step}
-use Rattle.operations.proofs.Fitting.{NodeFits, StepFits, set-any, write-fits, retry-fits, crash-fits, start-fits}
+use Rattle.operations.specs.Fits.{NodeFits}
+use Rattle.operations.proofs.Fitting.{StepFits, set-any, write-fits, retry-fits, crash-fits, start-fits}
 use Rattle.operations.proofs.FittingDelivery.{deliver-fits}
 use Rattle.laws_runs.proofs.Inbox.{Addressed, in-inbox}
 use Rattle.operations.proofs.Inbox.{message-read}
-use Rattle.protocol.proofs.InView.{Shaped, number-is, size-is, size-fits}
+use Rattle.protocol.proofs.InView.{number-is, size-is, size-fits}
 use Rattle.operations.proofs.Sent.{outgoing-fits, rows-fit, node-items-fit}
 use Rattle.protocol.proofs.Shapes.{write-shaped, retry-shaped, crash-shaped, start-shaped, deliver-shaped}
 use Rattle.operations.proofs.Represents.{StoreOf, store-after}

@@ -32,7 +32,8 @@ use Rattle.record.specs.Record.{zeroAfterRows, readAs, readRecord}
 use Rattle.record.specs.RoundTrip.{ItemFits}
 use Rattle.message.specs.declared.Reading.{Reading}
 use Rattle.message.specs.declared.Reading.the-variants.{Found, Fault}
-use Rattle.operations.proofs.Fitting.{CounterFits, MessageFits, zero-fits}
+use Rattle.operations.specs.Fits.{CounterFits}
+use Rattle.operations.proofs.Fitting.{MessageFits, zero-fits}
 
 -- ---- numbers of bytes, and of zero bytes
 

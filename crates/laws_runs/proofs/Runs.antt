@@ -29,8 +29,9 @@ use Rattle.protocol.specs.declared.Event.{Event}
 use Rattle.protocol.specs.declared.Node.{Node}
 use Rattle.protocol.specs.declared.Refusal.{Refusal}
 use Rattle.protocol.specs.declared.RowUse.the-variants as row-use
+use Rattle.protocol.specs.Shaped.{Shaped}
 use Rattle.protocol.proofs.Grouped.{each-fresh}
-use Rattle.protocol.proofs.InView.{Shaped, size-fits}
+use Rattle.protocol.proofs.InView.{size-fits}
 use Rattle.protocol.proofs.Shapes.{fresh-shaped}
 use Rattle.operations.proofs.Start.{SetUpTo, set-up-is, first-represents}
 use Rattle.operations.proofs.Represents.{Represents}

@@ -5,12 +5,12 @@ use mathlib.Core.List.{List}
 use Rattle.endian.specs.Number.{AreBytes}
 use Rattle.protocol.specs.Table.{nodeAt}
 use Rattle.protocol.specs.declared.Node.{Node}
-use Rattle.operations.proofs.Fitting.{NodeFits}
-use Rattle.protocol.proofs.InView.{Shaped}
+use Rattle.operations.specs.Fits.{NodeFits}
+use Rattle.protocol.specs.Shaped.{Shaped}
 
 pub record Within (table : List Node) (store : List ℕ) : Type 0 where
   -- rows and peers are arrays of 15
   pub shaped : (k : ℕ) → Shaped (nodeAt table k)
-  -- every number of a node is within its width
+  -- every number of a node that a message may bear is within its width
   pub fit : (k : ℕ) → NodeFits (nodeAt table k)
   pub bytes : AreBytes store

@@ -37,17 +37,7 @@ use Rattle.protocol.specs.declared.Phase.{Phase}
 use Rattle.protocol.specs.declared.Refusal.{Refusal}
 use Rattle.protocol.specs.declared.Sends.the-variants as sends
 use Rattle.protocol.specs.declared.Step.{Step}
-
--- "incarnation and attempt 32-bit": four bytes
-abbrev pub CounterFits : ℕ → Type 0
-CounterFits c = c < 256 ^ 4
-
-pub record NodeFits (node : Node) : Type 0 where
-  pub incarnation-fits : CounterFits (node .incarnation .0)
-  pub attempt-fits : CounterFits (node .attempt .0)
-  pub items-fit : (i : ℕ) → ItemFits (rowOf node i .item)
-  pub counted-fit : (i : ℕ) → CounterFits (peerOf (node .counted) i .incarnation .0)
-  pub asked-fit : (i : ℕ) → CounterFits (peerOf (node .asked) i .incarnation .0)
+use Rattle.operations.specs.Fits.{CounterFits, NodeFits}
 
 pub record MessageFits (m : Message) : Type 0 where
   pub other-fits : CounterFits (otherOf m .0)

@@ -18,7 +18,8 @@ use Rattle.message.specs.declared.Message.{Message}
 use Rattle.message.specs.declared.Message.the-variants as message
 use Rattle.record.specs.Kind.{otherOf, attemptOf, itemOf}
 use Rattle.record.specs.RoundTrip.{ItemFits}
-use Rattle.operations.proofs.Fitting.{CounterFits, NodeFits, MessageFits, StepFits, zero-fits, set-any, merged-fit, none-fits, crashed-fits, ended-fits, own-fits, store-sent, fetch-fits, by-refused, by-answer, by-quiet}
+use Rattle.operations.specs.Fits.{CounterFits, NodeFits}
+use Rattle.operations.proofs.Fitting.{MessageFits, StepFits, zero-fits, set-any, merged-fit, none-fits, crashed-fits, ended-fits, own-fits, store-sent, fetch-fits, by-refused, by-answer, by-quiet}
 use Rattle.protocol.specs.Answer.{ok, refused}
 use Rattle.protocol.specs.Deliver.{onMessage, deliverStep}
 use Rattle.protocol.specs.Fetching.{onFetch, onTable, tableCounted, withTable, noneCounted, nodeRecover, hasConflict, stopped, writtenBack}

@@ -33,7 +33,8 @@ use Rattle.protocol.specs.declared.Event.the-variants as event
 use Rattle.protocol.specs.declared.Node.{Node}
 use Rattle.protocol.specs.declared.Refusal.the-variants.{StoreLength, Unsound, NoNode, NoMessage}
 use Rattle.protocol.specs.declared.Step.{Step}
-use Rattle.operations.proofs.Fitting.{NodeFits, StepFits, write-fits, retry-fits, crash-fits, start-fits}
+use Rattle.operations.specs.Fits.{NodeFits}
+use Rattle.operations.proofs.Fitting.{StepFits, write-fits, retry-fits, crash-fits, start-fits}
 use Rattle.operations.proofs.FittingDelivery.{deliver-fits}
 use Rattle.protocol.proofs.Grouped.{Grouped}
 use Rattle.operations.proofs.Inbox.{message-read, no-fault}

@@ -38,7 +38,8 @@ use Rattle.protocol.specs.declared.Node.{Node}
 use Rattle.protocol.specs.declared.Refusal.{Refusal}
 use Rattle.protocol.specs.declared.Refusal.the-variants.{NoRoom}
 use Rattle.protocol.specs.declared.Step.{Step}
-use Rattle.operations.proofs.Fitting.{CounterFits, NodeFits, MessageFits, StepFits, set-any}
+use Rattle.operations.specs.Fits.{CounterFits, NodeFits}
+use Rattle.operations.proofs.Fitting.{MessageFits, StepFits, set-any}
 use Rattle.protocol.proofs.Grouped.{Grouped, deciding-place}
 use Rattle.protocol.proofs.InView.{Placed}
 use Rattle.protocol.proofs.Packets.{has-packet}

@@ -26,7 +26,8 @@ use Rattle.protocol.specs.Node.{rowOf, rowItems}
 use Rattle.protocol.specs.Outgoing.{goesTo, messageTo, outgoingTo, outgoingFrom, outgoing}
 use Rattle.protocol.specs.declared.Node.{Node}
 use Rattle.protocol.specs.declared.Sends.{Sends}
-use Rattle.operations.proofs.Fitting.{CounterFits, NodeFits, MessageFits, zero-fits}
+use Rattle.operations.specs.Fits.{CounterFits, NodeFits}
+use Rattle.operations.proofs.Fitting.{MessageFits, zero-fits}
 
 -- ---- every envelope that is sent fits its record
 

@@ -19,7 +19,8 @@ use Rattle.operations.specs.Operation.{Result, setUp, refuse}
 use Rattle.protocol.specs.Table.{noNode, freshTable}
 use Rattle.protocol.specs.declared.Answer.the-variants as answer
 use Rattle.protocol.specs.declared.Node.{Node}
-use Rattle.operations.proofs.Fitting.{NodeFits, blank-fits, ended-fits}
+use Rattle.operations.specs.Fits.{NodeFits}
+use Rattle.operations.proofs.Fitting.{blank-fits, ended-fits}
 use Rattle.protocol.proofs.Grouped.{each-fresh}
 use Rattle.operations.proofs.Inbox.{no-fault}
 use Rattle.operations.proofs.Represents.{AllSent, Represents}

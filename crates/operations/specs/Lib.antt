@@ -3,3 +3,4 @@ pub mod Run
 pub mod Refusal
 pub mod Claim
 pub mod Simulation
+pub mod Fits

@@ -19,12 +19,7 @@ use Rattle.protocol.specs.Sound.{soundNode}
 use Rattle.protocol.specs.declared.Node.{Node}
 use Rattle.protocol.specs.declared.Peer.{Peer}
 use Rattle.protocol.proofs.Seen.{seen, seenMessage}
-
--- the lists of a node stand for arrays
-pub record Shaped (node : Node) : Type 0 where
-  pub rows-length : length (node .rows) ≡ maxNodes
-  pub counted-length : length (node .counted) ≡ maxNodes
-  pub asked-length : length (node .asked) ≡ maxNodes
+use Rattle.protocol.specs.Shaped.{Shaped}
 
 -- "below n, not itself"
 abbrev pub Others : ℕ → ℕ → List Peer → Type 0

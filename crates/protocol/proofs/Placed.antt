@@ -29,9 +29,10 @@ use Rattle.protocol.specs.declared.Refusal.{Refusal}
 use Rattle.protocol.specs.declared.Sends.{Sends}
 use Rattle.protocol.specs.declared.Sends.the-variants as sends
 use Rattle.protocol.specs.declared.Step.{Step}
+use Rattle.protocol.specs.Shaped.{Shaped}
 use Rattle.protocol.proofs.Cases.{write-cases, retry-cases, crash-cases, start-cases, store-cases, stored-cases, confirm-cases, confirmed-cases, fetch-cases, table-cases}
 use Rattle.protocol.proofs.Counts.{none-present, peerUnder}
-use Rattle.protocol.proofs.InView.{Shaped, Others, Placed}
+use Rattle.protocol.proofs.InView.{Others, Placed}
 use Rattle.protocol.proofs.Shapes.{crashed-shaped, fresh-shaped, started-shaped, begun-shaped, row-shaped, counted-shaped, confirming-shaped, ended-shaped, table-shaped}
 
 -- ---- peers

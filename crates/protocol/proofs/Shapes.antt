@@ -22,8 +22,8 @@ use Rattle.protocol.specs.declared.Phase.{Phase}
 use Rattle.protocol.specs.declared.Refusal.{Refusal}
 use Rattle.protocol.specs.declared.Sends.{Sends}
 use Rattle.protocol.specs.declared.Step.{Step}
+use Rattle.protocol.specs.Shaped.{Shaped}
 use Rattle.protocol.proofs.Cases.{write-cases, retry-cases, crash-cases, start-cases, store-cases, stored-cases, confirm-cases, confirmed-cases, fetch-cases, table-cases}
-use Rattle.protocol.proofs.InView.{Shaped}
 use Rattle.protocol.proofs.Rows.{merged-length}
 
 -- the changes of a node

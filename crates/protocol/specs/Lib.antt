@@ -12,3 +12,4 @@ pub mod Table
 pub mod Call
 pub mod Network
 pub mod Claim
+pub mod Shaped
