@@ -3,23 +3,18 @@ use engine::Decided;
 use engine::decide;
 use engine::on_table;
 use event::Acted;
-use event::Seen;
 use event::carry_decision;
 use event::carry_out;
-use event::first_verdict;
 use event::refused;
 use item::Incarnation;
 use message::Reading;
 use protocol::Node;
 use protocol::Refusal;
-use protocol::Verdict;
 use sender_view::view_of;
 ghost use mathlib.Core.Path.{_≡_};
 ghost use Rattle.record.specs.Layout.{recordOf, rowsOf};
-ghost use Rattle.store.specs.Sound.{messageAt};
 ghost use Rattle.protocol.specs.Fetching.{onTable};
-ghost use Rattle.protocol.specs.declared.Event.the-variants.{Deliver};
-ghost use Rattle.event.specs.Act.{handedBack, carriedOut, delivered, acted};
+ghost use Rattle.event.specs.Act.{handedBack, carriedOut, delivered};
 
 // Delivery of the Table in record `r`, which the whole node decides.
 fn deliver_table(
@@ -38,11 +33,12 @@ fn deliver_table(
     carry_out(s, node, free, sender, step)
 }
 
-// Delivery of the message in record `r`, where so many records are free.
-fn deliver_message(s: &mut [u8], node: Node, free: usize, r: u64) -> Acted
-    ensures { λ a. ⌜ (a ≡ handedBack (delivered (messageAt (now (s .entry)) r) node (now (s .entry)) free r)) × (now (s .exit) ≡ delivered (messageAt (now (s .entry)) r) node (now (s .entry)) free r .store) ⌝ }
+// Delivery of the message `reading` in record `r`, where so many records are free. Only the rows of a Table are read from
+// the record.
+pub fn deliver_message(s: &mut [u8], node: Node, free: usize, reading: Reading, r: u64) -> Acted
+    ensures { λ a. ⌜ (a ≡ handedBack (delivered reading node (now (s .entry)) free r)) × (now (s .exit) ≡ delivered reading node (now (s .entry)) free r .store) ⌝ }
 {
-    let Reading::Found(envelope) = store_access::message(s, r) else {
+    let Reading::Found(envelope) = reading else {
         return refused(Refusal::NoMessage, node);
     };
     let sender = envelope.sender;
@@ -54,15 +50,5 @@ fn deliver_message(s: &mut [u8], node: Node, free: usize, r: u64) -> Acted
         Decided::Table(other) => {
             deliver_table(s, node, free, r as usize, sender, incarnation, other)
         }
-    }
-}
-
-// The Deliver of the record of this number, unless it is refused before.
-pub fn deliver_record(s: &mut [u8], node: Node, sound_table: bool, seen: Seen, number: u64) -> Acted
-    ensures { λ a. ⌜ (a ≡ handedBack (acted (Deliver number) «sound_table» seen node (now (s .entry)))) × (now (s .exit) ≡ acted (Deliver number) «sound_table» seen node (now (s .entry)) .store) ⌝ }
-{
-    match first_verdict(s, sound_table, seen) {
-        Verdict::Refuse(why) => refused(why, node),
-        Verdict::Take => deliver_message(s, node, seen.free, number),
     }
 }

@@ -2,19 +2,16 @@
 use Prim.Native.Nat.{ℕ, _*_, _≤_, _<_}
 use mathlib.Core.Path.{_≡_, refl, sym, ap, _∙_}
 use mathlib.Core.Logic.{_≢_}
-use mathlib.Core.Bool.{Bool, true, false, cond}
+use mathlib.Core.Bool.{Bool, true, false}
 use mathlib.Core.List.{List}
-use borrow.Author.Tests.{lt-ltb, le-ltb, ne-eqb, eqb-true}
+use borrow.Author.Tests.{lt-ltb, le-ltb, ne-eqb}
 use lib.ListN.{length}
-use Rattle.item.specs.declared.Item.{Item}
 use Rattle.item.specs.declared.Tag.{Tag}
 use Rattle.message.specs.declared.Envelope.{Envelope}
 use Rattle.record.specs.Layout.{recordSize, recordOf, rowsOf}
 use Rattle.message.specs.declared.Reading.{Reading}
 use Rattle.message.specs.declared.Reading.the-variants.{Found, Fault}
-use Rattle.store.specs.Records.{recordCount, rightLength, recordsOf, onRecords}
-use Rattle.store.proofs.Lent.{record-in}
-use Rattle.store.specs.Sound.{messageAt, messageIn}
+use Rattle.store.specs.Records.{recordCount, rightLength, onRecords}
 use Rattle.store.specs.Change.{putEach, countOutgoing, dropIn}
 use Rattle.protocol.specs.Deliver.{deliverStep}
 use Rattle.protocol.specs.Answer.{isRefused}
@@ -32,17 +29,6 @@ use Rattle.protocol.specs.declared.Verdict.{Verdict}
 use Rattle.protocol.specs.declared.Verdict.the-variants.{Take, Refuse}
 use Rattle.event.specs.declared.Seen.{Seen}
 use Rattle.event.specs.Act.{droppingOf, refuse, sentBy, carriedOut, atNode, dropped, delivered, onSound, firstVerdict, admitted, acted}
-
--- where a message is found the store has its length
-pub found-length : (store : List ℕ) (r : ℕ) {e : Envelope} → messageAt store r ≡ Found e
-    → length store ≡ recordCount * recordSize
-unfolding messageAt rightLength
-found-length store r h = go (rightLength store) refl h
-  where
-    go : (b : Bool) → rightLength store ≡ b → {e : Envelope} → cond b (messageIn (recordsOf store) r) Fault ≡ Found e
-        → length store ≡ recordCount * recordSize
-    go true p h = eqb-true (length store) (recordCount * recordSize) p
-    go false p h = cc
 
 module _ (node : Node) (store : List ℕ) (free back : ℕ) (step : Step) where
   pub carried-refused : isRefused (step .answer) ≡ true → carriedOut node store free back step ≡ record { answer = step .answer; node = node; store = store }
@@ -81,41 +67,36 @@ module _ (node : Node) (store : List ℕ) (r : ℕ) {m : Reading} where
   unfolding delivered
   delivered-none free e = ap (λ (k : Reading). delivered k node store free r) e
 
-  pub delivered-some : (free : ℕ) {e : Envelope} (items : List Item) (step : Step) → m ≡ messageAt store r → m ≡ Found e
-      → items ≡ rowsOf (recordOf store r) → step ≡ deliverStep node e items
+  pub delivered-some : (free : ℕ) {e : Envelope} (step : Step) → m ≡ Found e → step ≡ deliverStep node e (rowsOf (recordOf store r))
       → delivered m node store free r ≡ carriedOut node store free (e .sender) step
   unfolding delivered
-  delivered-some free {e} items step at em ei es =
-      ap (λ (k : Reading). delivered k node store free r) em
-      ∙ ap (carriedOut node store free (e .sender))
-      (ap (λ (l : List ℕ). deliverStep node e (rowsOf l)) (record-in store (found-length store r (sym at ∙ em)) r)
-      ∙ ap (deliverStep node e) (sym ei)
-      ∙ sym es)
+  delivered-some free {e} step em es =
+      ap (λ (k : Reading). delivered k node store free r) em ∙ ap (carriedOut node store free (e .sender)) (sym es)
 
-module _ (node : Node) (store : List ℕ) (seen : Seen) {e : Event} where
-  pub sound-write : {k : ℕ} {tag : Tag} (step : Step) → e ≡ event.Write k tag → step ≡ writeStep node tag → onSound e node store seen ≡ atNode node store seen k step
+module _ (node : Node) (store : List ℕ) (seen : Seen) (reading : Reading) {e : Event} where
+  pub sound-write : {k : ℕ} {tag : Tag} (step : Step) → e ≡ event.Write k tag → step ≡ writeStep node tag → onSound e node store seen reading ≡ atNode node store seen k step
   unfolding onSound
-  sound-write {k} step p q = ap (λ (v : Event). onSound v node store seen) p ∙ ap (atNode node store seen k) (sym q)
+  sound-write {k} step p q = ap (λ (v : Event). onSound v node store seen reading) p ∙ ap (atNode node store seen k) (sym q)
 
-  pub sound-retry : {k : ℕ} (step : Step) → e ≡ event.Retry k → step ≡ retryStep node → onSound e node store seen ≡ atNode node store seen k step
+  pub sound-retry : {k : ℕ} (step : Step) → e ≡ event.Retry k → step ≡ retryStep node → onSound e node store seen reading ≡ atNode node store seen k step
   unfolding onSound
-  sound-retry {k} step p q = ap (λ (v : Event). onSound v node store seen) p ∙ ap (atNode node store seen k) (sym q)
+  sound-retry {k} step p q = ap (λ (v : Event). onSound v node store seen reading) p ∙ ap (atNode node store seen k) (sym q)
 
-  pub sound-crash : {k : ℕ} (step : Step) → e ≡ event.Crash k → step ≡ crashStep node → onSound e node store seen ≡ atNode node store seen k step
+  pub sound-crash : {k : ℕ} (step : Step) → e ≡ event.Crash k → step ≡ crashStep node → onSound e node store seen reading ≡ atNode node store seen k step
   unfolding onSound
-  sound-crash {k} step p q = ap (λ (v : Event). onSound v node store seen) p ∙ ap (atNode node store seen k) (sym q)
+  sound-crash {k} step p q = ap (λ (v : Event). onSound v node store seen reading) p ∙ ap (atNode node store seen k) (sym q)
 
-  pub sound-start : {k : ℕ} (step : Step) → e ≡ event.Start k → step ≡ startStep node → onSound e node store seen ≡ atNode node store seen k step
+  pub sound-start : {k : ℕ} (step : Step) → e ≡ event.Start k → step ≡ startStep node → onSound e node store seen reading ≡ atNode node store seen k step
   unfolding onSound
-  sound-start {k} step p q = ap (λ (v : Event). onSound v node store seen) p ∙ ap (atNode node store seen k) (sym q)
+  sound-start {k} step p q = ap (λ (v : Event). onSound v node store seen reading) p ∙ ap (atNode node store seen k) (sym q)
 
-  pub sound-drop : {r : ℕ} → e ≡ event.Drop r → onSound e node store seen ≡ dropped (messageAt store r) node store r
+  pub sound-drop : {r : ℕ} → e ≡ event.Drop r → onSound e node store seen reading ≡ dropped reading node store r
   unfolding onSound
-  sound-drop p = ap (λ (v : Event). onSound v node store seen) p
+  sound-drop p = ap (λ (v : Event). onSound v node store seen reading) p
 
-  pub sound-deliver : {r : ℕ} → e ≡ event.Deliver r → onSound e node store seen ≡ delivered (messageAt store r) node store (seen .free) r
+  pub sound-deliver : {r : ℕ} → e ≡ event.Deliver r → onSound e node store seen reading ≡ delivered reading node store (seen .free) r
   unfolding onSound
-  sound-deliver p = ap (λ (v : Event). onSound v node store seen) p
+  sound-deliver p = ap (λ (v : Event). onSound v node store seen reading) p
 
 module _ (store : List ℕ) (t : Bool) (seen : Seen) where
   pub first-length : length store ≢ recordCount * recordSize → firstVerdict store t seen ≡ Refuse StoreLength
@@ -134,14 +115,14 @@ module _ (store : List ℕ) (t : Bool) (seen : Seen) where
   unfolding firstVerdict
   first-taken p q h = rw (p, q, h)
 
-  module _ (e : Event) (node : Node) where
-    pub acted-refused : {why : Refusal} → firstVerdict store t seen ≡ Refuse why → acted e t seen node store ≡ refuse why node store
+  module _ (reading : Reading) (e : Event) (node : Node) where
+    pub acted-refused : {why : Refusal} → firstVerdict store t seen ≡ Refuse why → acted e t seen reading node store ≡ refuse why node store
     unfolding acted admitted
-    acted-refused p = ap (λ (v : Verdict). admitted v node store (onSound e node store seen)) p
+    acted-refused p = ap (λ (v : Verdict). admitted v node store (onSound e node store seen reading)) p
 
-    pub acted-taken : firstVerdict store t seen ≡ Take → acted e t seen node store ≡ onSound e node store seen
+    pub acted-taken : firstVerdict store t seen ≡ Take → acted e t seen reading node store ≡ onSound e node store seen reading
     unfolding acted admitted
-    acted-taken p = ap (λ (v : Verdict). admitted v node store (onSound e node store seen)) p
+    acted-taken p = ap (λ (v : Verdict). admitted v node store (onSound e node store seen reading)) p
 
 -- ---- a Drop looks at no node
 
@@ -150,13 +131,13 @@ unfolding dropped
 dropped-node Fault node store r = refl
 dropped-node (Found e) node store r = refl
 
-pub drop-node : (r : ℕ) (t : Bool) (seen : Seen) (node : Node) (store : List ℕ) → acted (event.Drop r) t seen node store .node ≡ node
+pub drop-node : (r : ℕ) (t : Bool) (seen : Seen) (reading : Reading) (node : Node) (store : List ℕ) → acted (event.Drop r) t seen reading node store .node ≡ node
 unfolding acted admitted onSound
-drop-node r t seen node store = go (firstVerdict store t seen)
+drop-node r t seen reading node store = go (firstVerdict store t seen)
   where
-    go : (v : Verdict) → admitted v node store (onSound (event.Drop r) node store seen) .node ≡ node
+    go : (v : Verdict) → admitted v node store (onSound (event.Drop r) node store seen reading) .node ≡ node
     go (Refuse why) = refl
-    go Take = dropped-node (messageAt store r) node store r
+    go Take = dropped-node reading node store r
 
 pub dropping-is : (e : Event) → droppingOf e .drops ≡ true → e ≡ event.Drop (droppingOf e .number)
 unfolding droppingOf

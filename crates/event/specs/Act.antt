@@ -5,10 +5,10 @@ use mathlib.Core.Bool.{Bool, true, false, cond, _&&_}
 use mathlib.Core.List.{List}
 use lib.Dec.{ltb}
 use Rattle.message.specs.declared.Outgoing.{Outgoing}
-use Rattle.record.specs.Layout.{rowsOf}
+use Rattle.record.specs.Layout.{recordOf, rowsOf}
 use Rattle.message.specs.declared.Reading.{Reading}
 use Rattle.message.specs.declared.Reading.the-variants.{Found, Fault}
-use Rattle.store.specs.Records.{rightLength, recordsOf, recordIn, onRecords}
+use Rattle.store.specs.Records.{rightLength, onRecords}
 use Rattle.store.specs.Sound.{survey, messageAt}
 use Rattle.store.specs.Change.{putEach, countOutgoing, dropIn}
 use Rattle.protocol.specs.Deliver.{deliverStep}
@@ -32,28 +32,37 @@ use Rattle.event.specs.declared.Seen.{Seen}
 
 -- ---- before the table is read
 
+-- the message in the event's record; none where it names no record
+unfoldable pub readingOf : Event → List ℕ → Reading
+readingOf (event.Write k tag) store = Fault
+readingOf (event.Retry k) store = Fault
+readingOf (event.Crash k) store = Fault
+readingOf (event.Start k) store = Fault
+readingOf (event.Drop r) store = messageAt store r
+readingOf (event.Deliver r) store = messageAt store r
+
 -- the addressee of a message; 0 where there is none
 unfoldable pub addresseeOf : Reading → ℕ
 addresseeOf Fault = 0
 addresseeOf (Found e) = e .addressee
 
 -- whose event it is: the node number given, or the addressee of the message
-unfoldable pub placeOf : Event → List ℕ → ℕ
-placeOf (event.Write k tag) store = k
-placeOf (event.Retry k) store = k
-placeOf (event.Crash k) store = k
-placeOf (event.Start k) store = k
-placeOf (event.Drop r) store = addresseeOf (messageAt store r)
-placeOf (event.Deliver r) store = addresseeOf (messageAt store r)
+unfoldable pub placeOf : Event → Reading → ℕ
+placeOf (event.Write k tag) reading = k
+placeOf (event.Retry k) reading = k
+placeOf (event.Crash k) reading = k
+placeOf (event.Start k) reading = k
+placeOf (event.Drop r) reading = addresseeOf reading
+placeOf (event.Deliver r) reading = addresseeOf reading
 
--- what is seen of store and event
-unfoldable pub lookAt : Event → List ℕ → Seen
-lookAt e store =
+-- what is seen of store and event, where this is read of its record
+unfoldable pub lookAt : Event → List ℕ → Reading → Seen
+lookAt e store reading =
     record {
       sound = survey store .sound;
       n = survey store .n;
       free = survey store .free;
-      place = placeOf e store;
+      place = placeOf e reading;
     }
 
 abbrev pub noDrop : Dropping
@@ -116,16 +125,16 @@ dropped (Found e) node store r =
 unfoldable pub delivered : Reading → Node → List ℕ → ℕ → ℕ → Outcome
 delivered Fault node store free r = refuse NoMessage node store
 delivered (Found e) node store free r =
-    carriedOut node store free (e .sender) (deliverStep node e (rowsOf (recordIn (recordsOf store) r)))
+    carriedOut node store free (e .sender) (deliverStep node e (rowsOf (recordOf store r)))
 
 -- an event on a sound table and store
-unfoldable pub onSound : Event → Node → List ℕ → Seen → Outcome
-onSound (event.Write k tag) node store look = atNode node store look k (writeStep node tag)
-onSound (event.Retry k) node store look = atNode node store look k (retryStep node)
-onSound (event.Crash k) node store look = atNode node store look k (crashStep node)
-onSound (event.Start k) node store look = atNode node store look k (startStep node)
-onSound (event.Drop r) node store look = dropped (messageAt store r) node store r
-onSound (event.Deliver r) node store look = delivered (messageAt store r) node store (look .free) r
+unfoldable pub onSound : Event → Node → List ℕ → Seen → Reading → Outcome
+onSound (event.Write k tag) node store look reading = atNode node store look k (writeStep node tag)
+onSound (event.Retry k) node store look reading = atNode node store look k (retryStep node)
+onSound (event.Crash k) node store look reading = atNode node store look k (crashStep node)
+onSound (event.Start k) node store look reading = atNode node store look k (startStep node)
+onSound (event.Drop r) node store look reading = dropped reading node store r
+onSound (event.Deliver r) node store look reading = delivered reading node store (look .free) r
 
 -- "2 as above; 3: store or table unsound"
 unfoldable pub firstVerdict : List ℕ → Bool → Seen → Verdict
@@ -137,5 +146,6 @@ unfoldable pub admitted : Verdict → Node → List ℕ → Outcome → Outcome
 admitted (Refuse why) node store o = refuse why node store
 admitted Take node store o = o
 
-unfoldable pub acted : Event → Bool → Seen → Node → List ℕ → Outcome
-acted e soundTable look node store = admitted (firstVerdict store soundTable look) node store (onSound e node store look)
+unfoldable pub acted : Event → Bool → Seen → Reading → Node → List ℕ → Outcome
+acted e soundTable look reading node store =
+    admitted (firstVerdict store soundTable look) node store (onSound e node store look reading)

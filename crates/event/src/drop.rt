@@ -6,16 +6,15 @@ use protocol::Answer;
 use protocol::Refusal;
 use protocol::Verdict;
 ghost use mathlib.Core.Path.{_≡_};
-ghost use Rattle.store.specs.Sound.{messageAt};
 ghost use Rattle.protocol.specs.declared.Event.the-variants.{Drop};
 ghost use Rattle.protocol.specs.declared.Node.{Node};
 ghost use Rattle.event.specs.Act.{dropped, acted};
 
-// Drop of the message in record `r`: the answer and the store are the same whatever the node is.
-pub fn drop_message(s: &mut [u8], r: u64) -> Answer
-    ensures { λ a. ⌜ ((node : Node) → (a ≡ dropped (messageAt (now (s .entry)) r) node (now (s .entry)) r .answer) × (now (s .exit) ≡ dropped (messageAt (now (s .entry)) r) node (now (s .entry)) r .store)) ⌝ }
+// Drop of the message `reading` in record `r`: the answer and the store are the same whatever the node is.
+pub fn drop_message(s: &mut [u8], reading: Reading, r: u64) -> Answer
+    ensures { λ a. ⌜ ((node : Node) → (a ≡ dropped reading node (now (s .entry)) r .answer) × (now (s .exit) ≡ dropped reading node (now (s .entry)) r .store)) ⌝ }
 {
-    let Reading::Found(envelope) = store_access::message(s, r) else {
+    let Reading::Found(envelope) = reading else {
         return Answer::Refused(Refusal::NoMessage);
     };
     store_change::drop_message(s, envelope.addressee, r);
@@ -23,11 +22,17 @@ pub fn drop_message(s: &mut [u8], r: u64) -> Answer
 }
 
 // The Drop of the record of this number: the answer and the store are the same whatever the node is, so that none is copied.
-pub fn drop_record(s: &mut [u8], sound_table: bool, seen: Seen, number: u64) -> Answer
-    ensures { λ a. ⌜ ((node : Node) → (a ≡ acted (Drop number) «sound_table» seen node (now (s .entry)) .answer) × (now (s .exit) ≡ acted (Drop number) «sound_table» seen node (now (s .entry)) .store)) ⌝ }
+pub fn drop_record(
+    s: &mut [u8],
+    sound_table: bool,
+    seen: Seen,
+    reading: Reading,
+    number: u64,
+) -> Answer
+    ensures { λ a. ⌜ ((node : Node) → (a ≡ acted (Drop number) «sound_table» seen reading node (now (s .entry)) .answer) × (now (s .exit) ≡ acted (Drop number) «sound_table» seen reading node (now (s .entry)) .store)) ⌝ }
 {
     match first_verdict(s, sound_table, seen) {
         Verdict::Refuse(why) => Answer::Refused(why),
-        Verdict::Take => drop_message(s, number),
+        Verdict::Take => drop_message(s, reading, number),
     }
 }

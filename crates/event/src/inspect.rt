@@ -4,8 +4,7 @@ use crate::Seen;
 use message::Reading;
 use protocol::Event;
 ghost use mathlib.Core.Path.{_≡_};
-ghost use Rattle.store.specs.Sound.{messageAt};
-ghost use Rattle.event.specs.Act.{addresseeOf, placeOf, noDrop, droppingOf, lookAt};
+ghost use Rattle.event.specs.Act.{readingOf, addresseeOf, placeOf, noDrop, droppingOf, lookAt};
 
 // The addressee of a message; 0 where there is none.
 fn addressee(reading: Reading) -> usize
@@ -17,25 +16,17 @@ fn addressee(reading: Reading) -> usize
     }
 }
 
-// The addressee of the message in record `r`.
-fn addressee_at(s: &[u8], r: u64) -> usize
-    ensures { λ a. ⌜ a ≡ addresseeOf (messageAt (now (s .entry)) r) ⌝ }
-{
-    let reading = store_access::message(s, r);
-    addressee(reading)
-}
-
 // Whose event it is: the node number given, or the addressee of the message.
-fn place(s: &[u8], event: Event) -> usize
-    ensures { λ r. ⌜ r ≡ placeOf event (now (s .entry)) ⌝ }
+fn place(event: Event, reading: Reading) -> usize
+    ensures { λ r. ⌜ r ≡ placeOf event reading ⌝ }
 {
     match event {
         Event::Write { node, tag: _ } => node as usize,
         Event::Retry { node } => node as usize,
         Event::Crash { node } => node as usize,
         Event::Start { node } => node as usize,
-        Event::Drop { record } => addressee_at(s, record),
-        Event::Deliver { record } => addressee_at(s, record),
+        Event::Drop { record: _ } => addressee(reading),
+        Event::Deliver { record: _ } => addressee(reading),
     }
 }
 
@@ -66,12 +57,26 @@ pub fn dropping(event: Event) -> Dropping
     }
 }
 
-// What is seen of store and event.
-pub fn look(s: &[u8], event: Event) -> Seen
-    ensures { λ r. ⌜ r ≡ lookAt event (now (s .entry)) ⌝ }
+// The message in the event's record; none where it names no record.
+pub fn read(s: &[u8], event: Event) -> Reading
+    ensures { λ r. ⌜ r ≡ readingOf event (now (s .entry)) ⌝ }
+{
+    match event {
+        Event::Write { node: _, tag: _ } => Reading::Fault,
+        Event::Retry { node: _ } => Reading::Fault,
+        Event::Crash { node: _ } => Reading::Fault,
+        Event::Start { node: _ } => Reading::Fault,
+        Event::Drop { record } => store_access::message(s, record),
+        Event::Deliver { record } => store_access::message(s, record),
+    }
+}
+
+// What is seen of store and event, where `reading` is the message in the event's record.
+pub fn look(s: &[u8], event: Event, reading: Reading) -> Seen
+    ensures { λ r. ⌜ r ≡ lookAt event (now (s .entry)) reading ⌝ }
 {
     let survey = store_check::of(s);
-    let whose = place(s, event);
+    let whose = place(event, reading);
     Seen {
         sound: survey.sound,
         n: survey.n,

@@ -6,6 +6,7 @@ mod precheck;
 
 pub use commit::carry_decision;
 pub use commit::carry_out;
+pub use drop::drop_message;
 pub use drop::drop_record;
 pub use precheck::first_verdict;
 use protocol::Answer;

@@ -1,18 +1,20 @@
 -- An event at one node by value, and the node put back at its place, is what the protocol says of the whole table.
-use Prim.Native.Nat.{ℕ}
+use Prim.Native.Nat.{ℕ, _*_}
 use mathlib.Core.Path.{_≡_, refl, sym, ap, _∙_}
 use mathlib.Core.Bool.{Bool, true, false, cond}
 use mathlib.Core.List.{List}
+use borrow.Author.Tests.{eqb-true}
 use lib.Dec.{ltb}
-use lib.ListN.{getD, set}
+use lib.ListN.{length, getD, set}
 use lib.Seq.{set-getD}
 use Rattle.message.specs.declared.Outgoing.{Outgoing}
 use Rattle.message.specs.declared.Reading.{Reading}
 use Rattle.message.specs.declared.Reading.the-variants.{Found, Fault}
-use Rattle.record.specs.Layout.{rowsOf}
+use Rattle.record.specs.Layout.{recordSize, recordOf, rowsOf}
 use Rattle.store.specs.Change.{putEach, countOutgoing, dropIn}
 use Rattle.store.specs.Head.{groupSize}
-use Rattle.store.specs.Records.{rightLength, recordsOf, recordIn, joined, onRecords}
+use Rattle.store.proofs.Lent.{record-in}
+use Rattle.store.specs.Records.{recordCount, rightLength, recordsOf, joined, onRecords}
 use Rattle.store.specs.Sound.{soundRecords, freeCount, messageIn, messageAt, surveyOf, survey}
 use Rattle.operations.specs.Operation as whole
 use Rattle.operations.specs.Operation.{Result}
@@ -31,7 +33,7 @@ use Rattle.protocol.specs.declared.Refusal.{Refusal}
 use Rattle.protocol.specs.declared.Refusal.the-variants.{StoreLength, Unsound, NoNode, NoRoom, NoMessage}
 use Rattle.protocol.specs.declared.Step.{Step}
 use Rattle.event.specs.Act as one
-use Rattle.event.specs.Act.{Outcome, addresseeOf, placeOf, lookAt, droppingOf, handedBack}
+use Rattle.event.specs.Act.{Outcome, readingOf, addresseeOf, placeOf, lookAt, droppingOf, handedBack}
 use Rattle.event.specs.declared.Acted.{Acted}
 use Rattle.event.specs.declared.Dropping.{Dropping}
 use Rattle.event.specs.declared.Seen.{Seen}
@@ -43,16 +45,20 @@ abbrev putBack : List Node → ℕ → Outcome → Result
 putBack table k o = record { answer = o .answer; table = set table k (o .node); store = o .store }
 
 -- the node at its place is read, the event is carried out on it and the store, and the node is put back
-unfoldable atPlace : Event → Bool → Seen → List Node → List ℕ → Result
-atPlace e sound seen table store = putBack table (seen .place) (one.acted e sound seen (nodeAt table (seen .place)) store)
+unfoldable atPlace : Event → Bool → Seen → Reading → List Node → List ℕ → Result
+atPlace e sound seen reading table store = putBack table (seen .place) (one.acted e sound seen reading (nodeAt table (seen .place)) store)
 
 -- what `drop_record` says of a record: its answer and the store, whatever the node is
-abbrev pub Drops : ℕ → Bool → Seen → List ℕ → Answer → List ℕ → Type 0
-Drops number sound seen store r after = (node : Node) → (r ≡ one.acted (event.Drop number) sound seen node store .answer) × (after ≡ one.acted (event.Drop number) sound seen node store .store)
+abbrev pub Drops : ℕ → Bool → Seen → Reading → List ℕ → Answer → List ℕ → Type 0
+Drops number sound seen reading store r after = (node : Node) → (r ≡ one.acted (event.Drop number) sound seen reading node store .answer) × (after ≡ one.acted (event.Drop number) sound seen reading node store .store)
 
 -- what `act` says of a node: the answer and the node that it hands back, and the store
-abbrev pub Acts : Event → Bool → Seen → Node → List ℕ → Acted → List ℕ → Type 0
-Acts e sound seen node store r after = (r ≡ handedBack (one.acted e sound seen node store)) × (after ≡ one.acted e sound seen node store .store)
+abbrev pub Acts : Event → Bool → Seen → Reading → Node → List ℕ → Acted → List ℕ → Type 0
+Acts e sound seen reading node store r after = (r ≡ handedBack (one.acted e sound seen reading node store)) × (after ≡ one.acted e sound seen reading node store .store)
+
+-- whose event it is, by what is read of its record
+abbrev placeIn : Event → List ℕ → ℕ
+placeIn e store = placeOf e (readingOf e store)
 
 -- a node that is put back as it was changes nothing
 same-node : (table : List Node) (k : ℕ) → set table k (nodeAt table k) ≡ table
@@ -105,16 +111,19 @@ module _ (table : List Node) (store : List ℕ) (right : rightLength store ≡ t
   dropped-at (Found e) r = λ i. record { answer = answer.Ok; table = same-node table (e .addressee) i; store = changed table store (e .addressee) right (λ rs. dropIn rs (e .addressee) r) i }
 
   delivered-at : (m : Reading) (r : ℕ) → putBack table (addresseeOf m) (one.delivered m (nodeAt table (addresseeOf m)) store (freeCount (recordsOf store)) r) ≡ whole.delivered m r table store (recordsOf store)
-  unfolding one.delivered whole.delivered addresseeOf
+  unfolding one.delivered whole.delivered addresseeOf rightLength
   delivered-at Fault r = refused-at table store 0 NoMessage
-  delivered-at (Found e) r = carried-at table store (e .addressee) right (e .sender) (deliverStep (nodeAt table (e .addressee)) e (rowsOf (recordIn (recordsOf store) r)))
+  delivered-at (Found e) r =
+      let node = nodeAt table (e .addressee) in
+      carried-at table store (e .addressee) right (e .sender) (deliverStep node e (rowsOf (recordOf store r)))
+      ∙ ap (λ (l : List ℕ). whole.carriedOut table store (recordsOf store) (e .addressee) (e .sender) (deliverStep node e (rowsOf l))) (sym (record-in store (eqb-true (length store) (recordCount * recordSize) right) r))
 
   found-at : (r : ℕ) → messageAt store r ≡ messageIn (recordsOf store) r
   unfolding messageAt
   found-at r = rw right
 
-  sound-at : (e : Event) → putBack table (placeOf e store) (one.onSound e (nodeAt table (placeOf e store)) store (sound-seen table store (placeOf e store) right)) ≡ whole.onSound e table store (recordsOf store)
-  unfolding one.onSound whole.onSound placeOf
+  sound-at : (e : Event) → putBack table (placeIn e store) (one.onSound e (nodeAt table (placeIn e store)) store (sound-seen table store (placeIn e store) right) (readingOf e store)) ≡ whole.onSound e table store (recordsOf store)
+  unfolding one.onSound whole.onSound placeOf readingOf
   sound-at (event.Write k tag) = step-at table store k right (λ node. writeStep node tag)
   sound-at (event.Retry k) = step-at table store k right retryStep
   sound-at (event.Crash k) = step-at table store k right crashStep
@@ -123,28 +132,31 @@ module _ (table : List Node) (store : List ℕ) (right : rightLength store ≡ t
   sound-at (event.Deliver r) = delivered-at (messageAt store r) r ∙ ap (λ (m : Reading). whole.delivered m r table store (recordsOf store)) (found-at r)
 
 module _ (e : Event) (table : List Node) (store : List ℕ) where
+  abbrev reading : Reading
+  reading = readingOf e store
+
   abbrev place : ℕ
-  place = placeOf e store
+  place = placeOf e reading
 
   abbrev node : Node
   node = nodeAt table place
 
   -- as the code does it
   abbrev byNode : Result
-  byNode = atPlace e (soundTable (lookAt e store .n) table) (lookAt e store) table store
+  byNode = atPlace e (soundTable (lookAt e store reading .n) table) (lookAt e store reading) reading table store
 
   -- a store that is sound, with a table of any kind
-  seen-sound : rightLength store ≡ true → soundRecords (recordsOf store) ≡ true → lookAt e store ≡ record { sound = true; n = groupSize (recordsOf store); free = freeCount (recordsOf store); place = place }
+  seen-sound : rightLength store ≡ true → soundRecords (recordsOf store) ≡ true → lookAt e store reading ≡ record { sound = true; n = groupSize (recordsOf store); free = freeCount (recordsOf store); place = place }
   unfolding lookAt survey surveyOf
   seen-sound p q = rw (p, q)
 
-  seen-unsound : rightLength store ≡ true → soundRecords (recordsOf store) ≡ false → lookAt e store ≡ record { sound = false; n = 0; free = 0; place = place }
+  seen-unsound : rightLength store ≡ true → soundRecords (recordsOf store) ≡ false → lookAt e store reading ≡ record { sound = false; n = 0; free = 0; place = place }
   unfolding lookAt survey surveyOf
   seen-unsound p q = rw (p, q)
 
   -- what the code does, from what it sees
   abbrev withSeen : Seen → Result
-  withSeen seen = atPlace e (soundTable (seen .n) table) seen table store
+  withSeen seen = atPlace e (soundTable (seen .n) table) seen reading table store
 
   performed-wrong : rightLength store ≡ false → byNode ≡ whole.perform e table store
   unfolding atPlace one.acted one.admitted one.firstVerdict whole.perform lookAt
@@ -155,9 +167,9 @@ module _ (e : Event) (table : List Node) (store : List ℕ) where
   performed-unsound p q = ap withSeen (seen-unsound p q) ∙ rw (p, q) (refused-at table store place Unsound)
 
   -- on a sound store the table decides
-  judged : (t : Bool) (seen : Seen) → rightLength store ≡ true → seen .sound ≡ true → one.acted e t seen node store ≡ cond t (one.onSound e node store seen) (one.refuse Unsound node store)
-  judged true seen p q = acted-taken store true seen e node (first-taken store true seen p q refl)
-  judged false seen p q = acted-refused store false seen e node (first-table store false seen p q refl)
+  judged : (t : Bool) (seen : Seen) → rightLength store ≡ true → seen .sound ≡ true → one.acted e t seen reading node store ≡ cond t (one.onSound e node store seen reading) (one.refuse Unsound node store)
+  judged true seen p q = acted-taken store true seen reading e node (first-taken store true seen p q refl)
+  judged false seen p q = acted-refused store false seen reading e node (first-table store false seen p q refl)
 
   performed-sound : rightLength store ≡ true → soundRecords (recordsOf store) ≡ true → byNode ≡ whole.perform e table store
   unfolding atPlace whole.perform whole.onRecords
@@ -176,33 +188,34 @@ module _ (e : Event) (table : List Node) (store : List ℕ) where
   performed = performed-at (rightLength store) (soundRecords (recordsOf store)) refl refl
 
   -- the calls of `group::perform` one after the other, each with what it ensures
-  module _ (seen : Seen) (sound : Bool) (e₀ : seen ≡ lookAt e store) (e₁ : sound ≡ soundTable (seen .n) table) where
-    performed-seen : atPlace e sound seen table store ≡ whole.perform e table store
+  module _ (m : Reading) (seen : Seen) (sound : Bool) (eᵣ : m ≡ reading) (e₀ : seen ≡ lookAt e store m) (e₁ : sound ≡ soundTable (seen .n) table) where
+    performed-seen : atPlace e sound seen m table store ≡ whole.perform e table store
     performed-seen =
-        let t : sound ≡ soundTable (lookAt e store .n) table = e₁ ∙ ap (λ (v : Seen). soundTable (v .n) table) e₀ in
-        (λ i. atPlace e (t i) (e₀ i) table store) ∙ performed
+        let l : seen ≡ lookAt e store reading = e₀ ∙ ap (lookAt e store) eᵣ in
+        let t : sound ≡ soundTable (lookAt e store reading .n) table = e₁ ∙ ap (λ (v : Seen). soundTable (v .n) table) l in
+        (λ i. atPlace e (t i) (l i) (eᵣ i) table store) ∙ performed
 
     -- a Drop, from the store alone: the node that it would put back is the one that stands there
-    pub dropped-gives : (dropping : Dropping) (r : Answer) (after : List ℕ) → dropping ≡ droppingOf e → dropping .drops ≡ true → Drops (dropping .number) sound seen store r after
+    pub dropped-gives : (dropping : Dropping) (r : Answer) (after : List ℕ) → dropping ≡ droppingOf e → dropping .drops ≡ true → Drops (dropping .number) sound seen m store r after
         → Gives (whole.perform e table store) r table after
     unfolding atPlace
     dropped-gives dropping r after p drops d =
         let k = seen .place in
         let is : event.Drop (dropping .number) ≡ e = ap (λ (v : Dropping). event.Drop (v .number)) p ∙ sym (dropping-is e (sym (ap (λ (v : Dropping). v .drops) p) ∙ drops)) in
-        let all : atPlace (event.Drop (dropping .number)) sound seen table store ≡ whole.perform e table store = ap (λ (v : Event). atPlace v sound seen table store) is ∙ performed-seen in
-        let same : table ≡ atPlace (event.Drop (dropping .number)) sound seen table store .table =
-        sym (ap (set table k) (drop-node (dropping .number) sound seen (nodeAt table k) store) ∙ same-node table k) in
+        let all : atPlace (event.Drop (dropping .number)) sound seen m table store ≡ whole.perform e table store = ap (λ (v : Event). atPlace v sound seen m table store) is ∙ performed-seen in
+        let same : table ≡ atPlace (event.Drop (dropping .number)) sound seen m table store .table =
+        sym (ap (set table k) (drop-node (dropping .number) sound seen m (nodeAt table k) store) ∙ same-node table k) in
         (d (nodeAt table k) .0 ∙ ap (λ (o : Result). o .answer) all, (same ∙ ap (λ (o : Result). o .table) all, d (nodeAt table k) .1 ∙ ap (λ (o : Result). o .store) all))
 
     -- any other event, at its place
-    pub acted-gives : (v : Node) (r : Acted) (l : List Node) (m : List ℕ) → v ≡ getD table (seen .place) noNode → Acts e sound seen v store r m → l ≡ set table (seen .place) (r .node)
-        → Gives (whole.perform e table store) (r .answer) l m
+    pub acted-gives : (v : Node) (r : Acted) (l : List Node) (after : List ℕ) → v ≡ getD table (seen .place) noNode → Acts e sound seen m v store r after → l ≡ set table (seen .place) (r .node)
+        → Gives (whole.perform e table store) (r .answer) l after
     unfolding atPlace nodeAt
-    acted-gives v r l m e₂ e₃ e₄ =
-        let out : r ≡ handedBack (one.acted e sound seen (nodeAt table (seen .place)) store) = e₃ .0 ∙ ap (λ (d : Node). handedBack (one.acted e sound seen d store)) e₂ in (
+    acted-gives v r l after e₂ e₃ e₄ =
+        let out : r ≡ handedBack (one.acted e sound seen m (nodeAt table (seen .place)) store) = e₃ .0 ∙ ap (λ (d : Node). handedBack (one.acted e sound seen m d store)) e₂ in (
           ap (λ (o : Acted). o .answer) out ∙ ap (λ (o : Result). o .answer) performed-seen,
           (
             e₄ ∙ ap (λ (o : Acted). set table (seen .place) (o .node)) out ∙ ap (λ (o : Result). o .table) performed-seen,
-            e₃ .1 ∙ ap (λ (d : Node). one.acted e sound seen d store .store) e₂ ∙ ap (λ (o : Result). o .store) performed-seen,
+            e₃ .1 ∙ ap (λ (d : Node). one.acted e sound seen m d store .store) e₂ ∙ ap (λ (o : Result). o .store) performed-seen,
           ),
         )

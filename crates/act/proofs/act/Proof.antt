@@ -1,160 +1,56 @@
--- `act::act` meets its contract: an arm for each event.
-use Rattle.event.proofs.Laws.{sound-write, sound-retry, sound-crash, sound-start, drop-node}
-use Rattle.event.specs.Act.{Outcome, handedBack, firstVerdict, admitted, acted}
-use Rattle.protocol.specs.declared.Event.{Event}
+-- `act::act` meets its contract: an arm for each verdict.
+use Rattle.event.proofs.Laws.{acted-refused, acted-taken}
+use Rattle.event.specs.Act.{Outcome, handedBack}
 use denote.Ref.{now}
 use mathlib.Core.Path.{sym, ap, _∙_}
 use borrow.Author.Needs.{needs}
 use Rattle.act.proofs.act.Statement.{statement}
 use Rattle.act.proofs.act.Tie as tie
 
-enum-known-event : tie.Need-enum-known-event
-enum-known-event c = search needs
+first-verdict-requires : tie.Need-first-verdict-requires
+first-verdict-requires c κs = search needs
 
-write-requires : tie.Need-write-requires
-write-requires c κs = search needs
+enum-known-why : tie.Need-enum-known-why
+enum-known-why c = search needs
 
-decided-at-requires : tie.Need-decided-at-requires
-decided-at-requires c κs = search needs
+refused-requires : tie.Need-refused-requires
+refused-requires c κs = search needs
 
-enum-known-event-2 : tie.Need-enum-known-event-2
-enum-known-event-2 c = search needs
+enum-told : tie.Need-enum-told
+enum-told c = search needs
 
-retry-requires : tie.Need-retry-requires
-retry-requires c κs = search needs
-
-decided-at-requires-2 : tie.Need-decided-at-requires-2
-decided-at-requires-2 c κs = search needs
-
-enum-known-event-3 : tie.Need-enum-known-event-3
-enum-known-event-3 c = search needs
-
-crash-requires : tie.Need-crash-requires
-crash-requires c κs = search needs
-
-decided-at-requires-3 : tie.Need-decided-at-requires-3
-decided-at-requires-3 c κs = search needs
-
-enum-known-event-4 : tie.Need-enum-known-event-4
-enum-known-event-4 c = search needs
-
-start-requires : tie.Need-start-requires
-start-requires c κs = search needs
-
-decided-at-requires-4 : tie.Need-decided-at-requires-4
-decided-at-requires-4 c κs = search needs
-
-enum-known-event-5 : tie.Need-enum-known-event-5
-enum-known-event-5 c = search needs
-
-drop-record-requires : tie.Need-drop-record-requires
-drop-record-requires c κs = search needs
-
-enum-known-event-6 : tie.Need-enum-known-event-6
-enum-known-event-6 c = search needs
-
-deliver-record-requires : tie.Need-deliver-record-requires
-deliver-record-requires c κs = search needs
+on-sound-requires : tie.Need-on-sound-requires
+on-sound-requires c κs = search needs
 
 same-length : tie.Need-same-length
 same-length c = search needs
 
 returns : tie.Need-returns
-unfolding acted
 returns c =
-    let a = c .before .before .before .before .before .before .before .before .before .args in
-    let first = firstVerdict (now (a .s)) (a .sound-table) (a .seen) in
-    let e = ap (admitted first (a .node) (now (a .s))) (sound-write (a .node) (now (a .s)) (a .seen) (c .before .before .before .write .result) (c .before .before .before .before .before .before .event .given .1) (c .before .before .before .write .ensures)) in
-    let d = c .before .before .decided-at .ensures in
-    (d .0 ∙ ap handedBack (sym e), d .1 ∙ ap (λ (o : Outcome). o .store) (sym e))
+    let a = c .before .before .before .before .before .before .before .args in
+    let e = acted-refused (now (a .s)) (a .sound-table) (a .seen) (a .reading) (a .event) (a .node) (sym (c .before .before .before .before .first-verdict .ensures) ∙ c .before .before .why .given .1) in
+    (c .refused .ensures ∙ ap handedBack (sym e), ap (λ (o : Outcome). o .store) (sym e))
 
 same-length-2 : tie.Need-same-length-2
 same-length-2 c = search needs
 
 returns-2 : tie.Need-returns-2
-unfolding acted
 returns-2 c =
     let a = c .before .before .before .before .before .before .before .before .before .args in
-    let first = firstVerdict (now (a .s)) (a .sound-table) (a .seen) in
-    let e = ap (admitted first (a .node) (now (a .s))) (sound-retry (a .node) (now (a .s)) (a .seen) (c .before .before .before .retry .result) (c .before .before .before .before .before .before .event2 .given .1) (c .before .before .before .retry .ensures)) in
-    let d = c .before .before .decided-at2 .ensures in
-    (d .0 ∙ ap handedBack (sym e), d .1 ∙ ap (λ (o : Outcome). o .store) (sym e))
-
-same-length-3 : tie.Need-same-length-3
-same-length-3 c = search needs
-
-returns-3 : tie.Need-returns-3
-unfolding acted
-returns-3 c =
-    let a = c .before .before .before .before .before .before .before .before .before .args in
-    let first = firstVerdict (now (a .s)) (a .sound-table) (a .seen) in
-    let e = ap (admitted first (a .node) (now (a .s))) (sound-crash (a .node) (now (a .s)) (a .seen) (c .before .before .before .crash .result) (c .before .before .before .before .before .before .event3 .given .1) (c .before .before .before .crash .ensures)) in
-    let d = c .before .before .decided-at3 .ensures in
-    (d .0 ∙ ap handedBack (sym e), d .1 ∙ ap (λ (o : Outcome). o .store) (sym e))
-
-same-length-4 : tie.Need-same-length-4
-same-length-4 c = search needs
-
-returns-4 : tie.Need-returns-4
-unfolding acted
-returns-4 c =
-    let a = c .before .before .before .before .before .before .before .before .before .args in
-    let first = firstVerdict (now (a .s)) (a .sound-table) (a .seen) in
-    let e = ap (admitted first (a .node) (now (a .s))) (sound-start (a .node) (now (a .s)) (a .seen) (c .before .before .before .start .result) (c .before .before .before .before .before .before .event4 .given .1) (c .before .before .before .start .ensures)) in
-    let d = c .before .before .decided-at4 .ensures in
-    (d .0 ∙ ap handedBack (sym e), d .1 ∙ ap (λ (o : Outcome). o .store) (sym e))
-
-same-length-5 : tie.Need-same-length-5
-same-length-5 c = search needs
-
-returns-5 : tie.Need-returns-5
-returns-5 c =
-    let a = c .before .before .before .before .before .before .before .before .args in
-    let number = c .before .before .before .before .before .event5 .given .0 .0 in
-    let e = ap (λ (v : Event). acted v (a .sound-table) (a .seen) (a .node) (now (a .s))) (c .before .before .before .before .before .event5 .given .1) in
-    let d = c .before .before .drop-record .ensures (a .node) in
-    let kept = sym (drop-node number (a .sound-table) (a .seen) (a .node) (now (a .s))) in
-    ((λ i. record { answer = d .0 i; node = kept i }) ∙ ap handedBack (sym e), d .1 ∙ ap (λ (o : Outcome). o .store) (sym e))
-
-same-length-6 : tie.Need-same-length-6
-same-length-6 c = search needs
-
-returns-6 : tie.Need-returns-6
-returns-6 c =
-    let a = c .before .before .before .before .before .before .before .before .args in
-    let e = ap (λ (v : Event). acted v (a .sound-table) (a .seen) (a .node) (now (a .s))) (c .before .before .before .before .before .event6 .given .1) in
-    let d = c .before .before .deliver-record .ensures in
+    let e = acted-taken (now (a .s)) (a .sound-table) (a .seen) (a .reading) (a .event) (a .node) (sym (c .before .before .before .before .before .before .first-verdict .ensures) ∙ c .before .before .before .before .enum-told .given .1) in
+    let d = c .before .before .on-sound .ensures in
     (d .0 ∙ ap handedBack (sym e), d .1 ∙ ap (λ (o : Outcome). o .store) (sym e))
 
 pub act-spec : {M : Type 1} → statement M
 act-spec =
     tie.close
     (tie.spec
-    enum-known-event
-    write-requires
-    decided-at-requires
-    enum-known-event-2
-    retry-requires
-    decided-at-requires-2
-    enum-known-event-3
-    crash-requires
-    decided-at-requires-3
-    enum-known-event-4
-    start-requires
-    decided-at-requires-4
-    enum-known-event-5
-    drop-record-requires
-    enum-known-event-6
-    deliver-record-requires
+    first-verdict-requires
+    enum-known-why
+    refused-requires
+    enum-told
+    on-sound-requires
     same-length
     returns
     same-length-2
-    returns-2
-    same-length-3
-    returns-3
-    same-length-4
-    returns-4
-    same-length-5
-    returns-5
-    same-length-6
-    returns-6)
+    returns-2)

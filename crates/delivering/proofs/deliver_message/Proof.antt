@@ -7,16 +7,13 @@ use Rattle.protocol.specs.Fetching.{onTable}
 use Rattle.sender_view.specs.Decision.{stepBy}
 use Rattle.engine.specs.Decided.{decidedStep}
 use denote.Ref.{now}
-use mathlib.Core.Path.{refl, sym, ap, _∙_}
+use mathlib.Core.Path.{sym, ap, _∙_}
 use borrow.Author.Needs.{needs}
 use Rattle.delivering.proofs.deliver_message.Statement.{statement}
 use Rattle.delivering.proofs.deliver_message.Tie as tie
 
-message-requires : tie.Need-message-requires
-message-requires c κs = search needs
-
-enum-known-envelope : tie.Need-enum-known-envelope
-enum-known-envelope c = search needs
+enum-known-reading : tie.Need-enum-known-reading
+enum-known-reading c = search needs
 
 enum-told : tie.Need-enum-told
 enum-told c = search needs
@@ -24,13 +21,10 @@ enum-told c = search needs
 refused-requires : tie.Need-refused-requires
 refused-requires c κs = search needs
 
-same-length : tie.Need-same-length
-same-length c = search needs
-
 returns : tie.Need-returns
 returns c =
-    let a = c .before .before .before .before .before .before .args in
-    let e = delivered-none (a .node) (now (a .s)) (a .r) (a .free) (sym (c .before .before .before .message .ensures) ∙ c .before .enum-told .given .1) in
+    let a = c .before .before .before .before .args in
+    let e = delivered-none (a .node) (now (a .s)) (a .r) (a .free) (c .before .enum-told .given .1) in
     (c .refused .ensures ∙ ap handedBack (sym e), ap (λ (o : Outcome). o .store) (sym e))
 
 view-of-requires : tie.Need-view-of-requires
@@ -51,31 +45,31 @@ enum-known-other c = search needs
 deliver-table-requires : tie.Need-deliver-table-requires
 deliver-table-requires c κs = search needs
 
-same-length-2 : tie.Need-same-length-2
-same-length-2 c = search needs
+same-length : tie.Need-same-length
+same-length c = search needs
 
 returns-2 : tie.Need-returns-2
 unfolding decidedStep deliverStep
 returns-2 c =
-    let a = c .before .before .before .before .before .before .before .before .before .before .before .before .before .before .before .before .args in
-    let found = c .before .before .before .before .before .before .before .before .before .before .before .envelope .given .0 .0 in
+    let a = c .before .before .before .before .before .before .before .before .before .before .before .before .before .before .args in
+    let found = c .before .before .before .before .before .before .before .before .before .before .before .reading .given .0 .0 in
     let rows = rowsOf (recordOf (now (a .s)) (a .r)) in
     let decided = rw (c .before .before .before .before .before .decision .given .1) at (c .before .before .before .before .before .before .before .decide .ensures (a .node) (found .sender) rows (sym (c .before .before .before .before .before .before .before .before .view-of .ensures))) in
-    let e = delivered-some (a .node) (now (a .s)) (a .r) (a .free) rows (stepBy (a .node) (found .sender) (c .before .before .before .before .before .decision .given .0 .0)) refl (sym (c .before .before .before .before .before .before .before .before .before .before .before .before .before .message .ensures) ∙ c .before .before .before .before .before .before .before .before .before .before .before .envelope .given .1) refl decided in
+    let e = delivered-some (a .node) (now (a .s)) (a .r) (a .free) (stepBy (a .node) (found .sender) (c .before .before .before .before .before .decision .given .0 .0)) (c .before .before .before .before .before .before .before .before .before .before .before .reading .given .1) decided in
     let d = c .before .before .carry-decision .ensures in
     (d .0 ∙ ap handedBack (sym e), d .1 ∙ ap (λ (o : Outcome). o .store) (sym e))
 
-same-length-3 : tie.Need-same-length-3
-same-length-3 c = search needs
+same-length-2 : tie.Need-same-length-2
+same-length-2 c = search needs
 
 returns-3 : tie.Need-returns-3
 unfolding decidedStep deliverStep
 returns-3 c =
-    let a = c .before .before .before .before .before .before .before .before .before .before .before .before .before .before .before .before .args in
-    let found = c .before .before .before .before .before .before .before .before .before .before .before .envelope .given .0 .0 in
+    let a = c .before .before .before .before .before .before .before .before .before .before .before .before .before .before .args in
+    let found = c .before .before .before .before .before .before .before .before .before .before .before .reading .given .0 .0 in
     let rows = rowsOf (recordOf (now (a .s)) (a .r)) in
     let decided = rw (c .before .before .before .before .before .other .given .1) at (c .before .before .before .before .before .before .before .decide .ensures (a .node) (found .sender) rows (sym (c .before .before .before .before .before .before .before .before .view-of .ensures))) in
-    let e = delivered-some (a .node) (now (a .s)) (a .r) (a .free) rows (onTable (a .node) (found .sender) (found .incarnation) (c .before .before .before .before .before .other .given .0 .0) rows) refl (sym (c .before .before .before .before .before .before .before .before .before .before .before .before .before .message .ensures) ∙ c .before .before .before .before .before .before .before .before .before .before .before .envelope .given .1) refl decided in
+    let e = delivered-some (a .node) (now (a .s)) (a .r) (a .free) (onTable (a .node) (found .sender) (found .incarnation) (c .before .before .before .before .before .other .given .0 .0) rows) (c .before .before .before .before .before .before .before .before .before .before .before .reading .given .1) decided in
     let d = c .before .before .deliver-table .ensures in
     (d .0 ∙ ap handedBack (sym e), d .1 ∙ ap (λ (o : Outcome). o .store) (sym e))
 
@@ -83,11 +77,9 @@ pub deliver-message-spec : {M : Type 1} → statement M
 deliver-message-spec =
     tie.close
     (tie.spec
-    message-requires
-    enum-known-envelope
+    enum-known-reading
     enum-told
     refused-requires
-    same-length
     returns
     view-of-requires
     decide-requires
@@ -95,7 +87,7 @@ deliver-message-spec =
     carry-decision-requires
     enum-known-other
     deliver-table-requires
-    same-length-2
+    same-length
     returns-2
-    same-length-3
+    same-length-2
     returns-3)

@@ -27,7 +27,7 @@ returns : tie.Need-returns
 returns c node =
     let a = c .before .before .before .before .before .before .args in
     let first = sym (c .before .before .before .first-verdict .ensures) ∙ c .before .why .given .1 in
-    let e = acted-refused (now (a .s)) (a .sound-table) (a .seen) (event.Drop (a .number)) node first in
+    let e = acted-refused (now (a .s)) (a .sound-table) (a .seen) (a .reading) (event.Drop (a .number)) node first in
     (ap (λ (o : Outcome). o .answer) (sym e), ap (λ (o : Outcome). o .store) (sym e))
 
 same-length-2 : tie.Need-same-length-2
@@ -37,7 +37,7 @@ returns-2 : tie.Need-returns-2
 returns-2 c node =
     let a = c .before .before .before .before .before .before .before .before .before .args in
     let first = sym (c .before .before .before .before .before .before .first-verdict .ensures) ∙ c .before .before .before .before .enum-told .given .1 in
-    let e = acted-taken (now (a .s)) (a .sound-table) (a .seen) (event.Drop (a .number)) node first ∙ sound-drop node (now (a .s)) (a .seen) refl in
+    let e = acted-taken (now (a .s)) (a .sound-table) (a .seen) (a .reading) (event.Drop (a .number)) node first ∙ sound-drop node (now (a .s)) (a .seen) (a .reading) refl in
     let d = c .before .before .drop-message .ensures node in
     (d .0 ∙ ap (λ (o : Outcome). o .answer) (sym e), d .1 ∙ ap (λ (o : Outcome). o .store) (sym e))
 

@@ -16,17 +16,17 @@ enum-known-event-3 c = search needs
 enum-known-event-4 : tie.Need-enum-known-event-4
 enum-known-event-4 c = search needs
 
-enum-known-event-5 : tie.Need-enum-known-event-5
-enum-known-event-5 c = search needs
+enum-told : tie.Need-enum-told
+enum-told c = search needs
 
-addressee-at-requires : tie.Need-addressee-at-requires
-addressee-at-requires c κs = search needs
+addressee-requires : tie.Need-addressee-requires
+addressee-requires c κs = search needs
 
-enum-known-event-6 : tie.Need-enum-known-event-6
-enum-known-event-6 c = search needs
+enum-told-2 : tie.Need-enum-told-2
+enum-told-2 c = search needs
 
-addressee-at-requires-2 : tie.Need-addressee-at-requires-2
-addressee-at-requires-2 c κs = search needs
+addressee-requires-2 : tie.Need-addressee-requires-2
+addressee-requires-2 c κs = search needs
 
 returns : tie.Need-returns
 unfolding placeOf
@@ -46,11 +46,11 @@ returns-4 c = rw (c .before .event4 .given .1)
 
 returns-5 : tie.Need-returns-5
 unfolding placeOf
-returns-5 c = rw (c .addressee-at .ensures, c .before .before .event5 .given .1)
+returns-5 c = rw (c .addressee .ensures, c .before .enum-told .given .1)
 
 returns-6 : tie.Need-returns-6
 unfolding placeOf
-returns-6 c = rw (c .addressee-at2 .ensures, c .before .before .event6 .given .1)
+returns-6 c = rw (c .addressee2 .ensures, c .before .enum-told2 .given .1)
 
 pub place-spec : {M : Type 1} → statement M
 place-spec =
@@ -60,10 +60,10 @@ place-spec =
     enum-known-event-2
     enum-known-event-3
     enum-known-event-4
-    enum-known-event-5
-    addressee-at-requires
-    enum-known-event-6
-    addressee-at-requires-2
+    enum-told
+    addressee-requires
+    enum-told-2
+    addressee-requires-2
     returns
     returns-2
     returns-3
