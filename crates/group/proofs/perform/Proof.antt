@@ -1,6 +1,6 @@
 -- `group::perform` meets its contract: a walk of its MIR, by hand. The store is lent as a `&` to `read` and `look`, and the table to `check_table` and `node_at`; each comes back.
 -- A Drop gives the store for good to `drop_record` and leaves the table as it is; any other event gives the store for good to `act` and the table to `replace_node`.
--- All that the proof knows of the callees is that they meet their contracts.
+-- All that the proof knows of the callees is that they meet their contracts. Of a cell with a struct or an enum type and value are written out: found by comparison they take more steps than a declaration may.
 -- Assumes nothing.
 use mathlib.Core.Path.{_≡_, refl, ap, subst}
 use mathlib.Core.Bool.{Bool}
