@@ -36,13 +36,12 @@ done asked n result =
     record { turn = record { reply = reply.Answered (result .answer); drill = record { n = sizeThen asked n (result .answer); nodes = result .table } }; store = result .store }
 
 asked-done : (line : Line) (n : ℕ) (nodes : List Node) (store : List ℕ) → isAsked line ≡ true → readDone line (record { n = n; nodes = nodes }) store ≡ done (askedBy n line) n (operatedFirst (askedBy n line) nodes store)
-unfolding isAsked askedBy readDone begun called answered operated operatedFirst putFirst sizeThen
+unfolding askedBy readDone begun called answered operated operatedFirst putFirst sizeThen
 asked-done (SetUp k) n nodes store t = refl
 asked-done (Call e) n nodes store t = refl
 asked-done Unread n nodes store t = absurd (false≢true t)
 
 pub not-asked : (line : Line) → isAsked line ≡ false → line ≡ Unread
-unfolding isAsked
 not-asked (SetUp k) t = absurd (true≢false t)
 not-asked (Call e) t = absurd (true≢false t)
 not-asked Unread t = refl

@@ -23,7 +23,7 @@ use Rattle.script.specs.declared.Line.the-variants.{SetUp, Call, Unread}
 use Rattle.drill_state.specs.declared.line_reader.Position.{Position}
 
 -- whether a line asks something of the group, and what it asks of a group of n; a set-up has no event
-unfoldable pub isAsked : Line → Bool
+abbrev pub isAsked : Line → Bool
 isAsked (SetUp k) = true
 isAsked (Call e) = true
 isAsked Unread = false
