@@ -8,21 +8,15 @@ use phase::is_confirming;
 use protocol::Peer;
 use protocol::Refusal;
 use sender_view::Decision;
-use sender_view::View;
+use sender_view::SenderView;
 use sender_view::own_write;
 use sender_view::refused;
-ghost use Prim.Native.Nat.{ℕ};
-ghost use mathlib.Core.Bool.{_&&_};
 ghost use mathlib.Core.Path.{_≡_};
-ghost use Rattle.protocol.specs.declared.Node.{Node};
-ghost use Rattle.sender_view.specs.View.{Sees};
-ghost use Rattle.sender_view.specs.Decision.{stepBy};
-ghost use Rattle.item.specs.Counter.{sameIncarnation};
-ghost use Rattle.protocol.specs.Storing.{onConfirmed};
+ghost use Rattle.confirming.specs.Decisions.{presentUnder, confirmedDecision};
 
 // Whether the sender is one of those asked, under this incarnation.
 fn asked_under(peer: Peer, incarnation: Incarnation) -> bool
-    ensures { λ r. ⌜ r ≡ peer .present && sameIncarnation (peer .incarnation) incarnation ⌝ }
+    ensures { λ r. ⌜ r ≡ presentUnder peer incarnation ⌝ }
 {
     if !peer.present {
         return false;
@@ -33,13 +27,13 @@ fn asked_under(peer: Peer, incarnation: Incarnation) -> bool
 // Confirmed: refused with 9, with 10 (also where the sender was not asked under this incarnation) or 11; otherwise
 // the sender is counted.
 pub fn on_confirmed(
-    view: View,
+    view: SenderView,
     incarnation: Incarnation,
     other: Incarnation,
     attempt: Attempt,
     item: Item,
 ) -> Decision
-    ensures { λ r. ⌜ ((node : Node) (sender : ℕ) → Sees view node sender → stepBy node sender r ≡ onConfirmed node sender incarnation other attempt item) ⌝ }
+    ensures { λ r. ⌜ r ≡ confirmedDecision view incarnation other attempt item ⌝ }
 {
     let phase = view.phase;
     if !is_confirming(phase) {

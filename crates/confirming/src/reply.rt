@@ -8,17 +8,14 @@ use message::Message;
 use phase::is_up;
 use protocol::Refusal;
 use protocol::Sends;
-use sender_view::Change;
 use sender_view::Decision;
-use sender_view::View;
+use sender_view::NodeChange;
+use sender_view::SenderView;
 use sender_view::ok;
 use sender_view::refused;
-ghost use Prim.Native.Nat.{ℕ};
 ghost use mathlib.Core.Path.{_≡_};
-ghost use Rattle.protocol.specs.declared.Node.{Node};
-ghost use Rattle.sender_view.specs.View.{Sees};
-ghost use Rattle.sender_view.specs.Decision.{stepBy};
-ghost use Rattle.protocol.specs.Storing.{storedUnder, onConfirm};
+ghost use Rattle.protocol.specs.Storing.{storedUnder};
+ghost use Rattle.confirming.specs.Decisions.{confirmDecision};
 
 // Whether the row has this item, stored under these counters.
 fn stored_under(row: Row, incarnation: Incarnation, attempt: Attempt, item: Item) -> bool
@@ -36,13 +33,13 @@ fn stored_under(row: Row, incarnation: Incarnation, attempt: Attempt, item: Item
 // Confirm: refused with 9, or with 10 where the node has started since it stored or the sender's row has something
 // else by now; otherwise Confirmed goes back.
 pub fn on_confirm(
-    view: View,
+    view: SenderView,
     incarnation: Incarnation,
     other: Incarnation,
     attempt: Attempt,
     item: Item,
 ) -> Decision
-    ensures { λ r. ⌜ ((node : Node) (sender : ℕ) → Sees view node sender → stepBy node sender r ≡ onConfirm node sender incarnation other attempt item) ⌝ }
+    ensures { λ r. ⌜ r ≡ confirmDecision view incarnation other attempt item ⌝ }
 {
     let phase = view.phase;
     if !is_up(phase) {
@@ -56,7 +53,7 @@ pub fn on_confirm(
         return refused(Refusal::Stale);
     }
     ok(
-        Change::Nothing,
+        NodeChange::Nothing,
         Sends::Back(Message::Confirmed {
             other: incarnation,
             attempt: attempt,

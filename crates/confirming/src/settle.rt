@@ -7,24 +7,21 @@ use phase::is_returning;
 use protocol::Answer;
 use protocol::Phase;
 use protocol::Sends;
-use sender_view::Change;
 use sender_view::Decision;
-use sender_view::View;
+use sender_view::NodeChange;
+use sender_view::SenderView;
 use sender_view::ok;
-ghost use Prim.Native.Nat.{ℕ};
 ghost use mathlib.Core.Path.{_≡_};
-ghost use Rattle.protocol.specs.declared.Node.{Node};
-ghost use Rattle.sender_view.specs.View.{Sees};
-ghost use Rattle.sender_view.specs.Decision.{endedWith, stepBy};
-ghost use Rattle.protocol.specs.Node.{withCounted};
-ghost use Rattle.protocol.specs.Storing.{endAnswer, confirmedCounted};
+ghost use Rattle.protocol.specs.Storing.{endAnswer};
+ghost use Rattle.sender_view.specs.Decision.{endedWith};
+ghost use Rattle.confirming.specs.Decisions.{confirmedCountedDecision};
 
 // The sender is counted: at f the write ends.
-pub fn confirmed_counted(view: View, incarnation: Incarnation) -> Decision
-    ensures { λ r. ⌜ ((node : Node) (sender : ℕ) → Sees view node sender → stepBy node sender r ≡ confirmedCounted (withCounted node sender incarnation)) ⌝ }
+pub fn confirmed_counted(view: SenderView, incarnation: Incarnation) -> Decision
+    ensures { λ r. ⌜ r ≡ confirmedCountedDecision view incarnation ⌝ }
 {
     if view.count < half(view.n) {
-        return ok(Change::Counted(incarnation), Sends::Nothing);
+        return ok(NodeChange::Counted(incarnation), Sends::Nothing);
     }
     let phase = view.phase;
     let item = view.own;
@@ -38,7 +35,7 @@ fn store_success(phase: Phase, item: Item) -> Decision
     let answer = end_answer(phase, item);
     Decision {
         answer: answer,
-        change: Change::Ended,
+        change: NodeChange::Ended,
         sends: Sends::Nothing,
     }
 }

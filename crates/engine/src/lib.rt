@@ -16,51 +16,46 @@ pub use node_calls::write;
 use protocol::Node;
 use protocol::Step;
 use sender_view::Decision;
-use sender_view::View;
+use sender_view::SenderView;
 use sender_view::step_of;
 use sender_view::view_of;
 use storing::on_store;
 use storing::on_stored;
-ghost use Prim.Native.Nat.{ℕ};
-ghost use mathlib.Core.List.{List};
 ghost use mathlib.Core.Path.{_≡_};
-ghost use Rattle.item.specs.declared.Item.{Item};
-ghost use Rattle.protocol.specs.Deliver.{onMessage, deliverStep};
-ghost use Rattle.protocol.specs.declared.Node.{Node};
-ghost use Rattle.sender_view.specs.View.{Sees};
-ghost use Rattle.engine.specs.Decided.{decidedStep};
+ghost use Rattle.protocol.specs.Deliver.{deliverStep};
+ghost use Rattle.engine.specs.Decided.{decided};
 
 // What is decided of a message: a decision by the view of its sender, or that it is a Table with this other incarnation,
 // which the whole node decides.
 pub enum Decided {
-    Seen(Decision),
+    Change(Decision),
     Table(Incarnation),
 }
 
-// What every node with this view of the sender makes of a message.
-pub fn decide(view: View, incarnation: Incarnation, message: Message) -> Decided
-    ensures { λ r. ⌜ ((node : Node) (sender : ℕ) (items : List Item) → Sees view node sender → decidedStep r node sender incarnation items ≡ onMessage message node sender incarnation items) ⌝ }
+// What is decided of a message of the sender with this view.
+pub fn decide(view: SenderView, incarnation: Incarnation, message: Message) -> Decided
+    ensures { λ r. ⌜ r ≡ decided view incarnation message ⌝ }
 {
     match message {
         Message::Store { attempt, item } => {
-            Decided::Seen(on_store(view, incarnation, attempt, item))
+            Decided::Change(on_store(view, incarnation, attempt, item))
         }
         Message::Stored {
             other,
             attempt,
             item,
-        } => Decided::Seen(on_stored(view, incarnation, other, attempt, item)),
+        } => Decided::Change(on_stored(view, incarnation, other, attempt, item)),
         Message::Confirm {
             other,
             attempt,
             item,
-        } => Decided::Seen(on_confirm(view, incarnation, other, attempt, item)),
+        } => Decided::Change(on_confirm(view, incarnation, other, attempt, item)),
         Message::Confirmed {
             other,
             attempt,
             item,
-        } => Decided::Seen(on_confirmed(view, incarnation, other, attempt, item)),
-        Message::Fetch => Decided::Seen(on_fetch(view, incarnation)),
+        } => Decided::Change(on_confirmed(view, incarnation, other, attempt, item)),
+        Message::Fetch => Decided::Change(on_fetch(view, incarnation)),
         Message::Table { other } => Decided::Table(other),
     }
 }
@@ -74,7 +69,7 @@ pub fn deliver(node: Node, envelope: Envelope, items: [Item; Node::MAX_ROWS]) ->
     let message = envelope.message;
     let view = view_of(node, sender);
     match decide(view, incarnation, message) {
-        Decided::Seen(decision) => step_of(node, sender, decision),
+        Decided::Change(decision) => step_of(node, sender, decision),
         Decided::Table(other) => on_table(node, sender, incarnation, other, items),
     }
 }

@@ -1,2 +1,3 @@
 pub mod Marks
 pub mod Merged
+pub mod Agree

@@ -10,15 +10,15 @@ use Rattle.protocol.specs.declared.Sends.{Sends}
 use Rattle.protocol.specs.declared.Sends.the-variants as sends
 use Rattle.protocol.specs.declared.Stage.the-variants as stage
 use Rattle.protocol.specs.declared.Step.{Step}
-use Rattle.sender_view.specs.declared.decision.Change.{Change}
-use Rattle.sender_view.specs.declared.decision.Change.the-variants as change
+use Rattle.sender_view.specs.declared.decision.NodeChange.{NodeChange}
+use Rattle.sender_view.specs.declared.decision.NodeChange.the-variants as change
 use Rattle.sender_view.specs.declared.decision.Decision.{Decision}
 
 -- nothing changes, and nothing is sent
 abbrev pub refusedWith : Refusal → Decision
 refusedWith why = record { answer = answer.Refused why; change = change.Nothing; sends = sends.Nothing }
 
-abbrev pub okWith : Change → Sends → Decision
+abbrev pub okWith : NodeChange → Sends → Decision
 okWith change sends = record { answer = answer.Ok; change = change; sends = sends }
 
 -- the write has ended, and nothing is sent
@@ -26,7 +26,7 @@ abbrev pub endedWith : Answer → Decision
 endedWith answer = record { answer = answer; change = change.Ended; sends = sends.Nothing }
 
 -- the node with what changes of it, on a message of this sender
-unfoldable pub changed : Node → ℕ → Change → Node
+unfoldable pub changed : Node → ℕ → NodeChange → Node
 changed node sender change.Nothing = node
 changed node sender (change.Row row) = withRow node sender row
 changed node sender (change.Counted incarnation) = withCounted node sender incarnation

@@ -19,7 +19,7 @@ ghost use Rattle.protocol.specs.declared.Stage.the-variants as stage;
 ghost use Rattle.sender_view.specs.Decision.{refusedWith, okWith, changed as withChange, stepBy};
 
 // What changes of a node.
-pub enum Change {
+pub enum NodeChange {
     Nothing,
     // The sender's row.
     Row(Row),
@@ -34,7 +34,7 @@ pub enum Change {
 // What a node makes of a message.
 pub struct Decision {
     pub answer: Answer,
-    pub change: Change,
+    pub change: NodeChange,
     pub sends: Sends,
 }
 
@@ -44,13 +44,13 @@ pub fn refused(why: Refusal) -> Decision
 {
     Decision {
         answer: Answer::Refused(why),
-        change: Change::Nothing,
+        change: NodeChange::Nothing,
         sends: Sends::Nothing,
     }
 }
 
 // The answer "ok", with what changes and what is sent.
-pub fn ok(change: Change, sends: Sends) -> Decision
+pub fn ok(change: NodeChange, sends: Sends) -> Decision
     ensures { λ r. ⌜ r ≡ okWith change sends ⌝ }
 {
     Decision {
@@ -70,15 +70,15 @@ fn confirming(node: Node, sender: usize, incarnation: Incarnation) -> Node
 }
 
 // The node with what changes of it.
-pub fn changed(node: Node, sender: usize, change: Change) -> Node
+pub fn changed(node: Node, sender: usize, change: NodeChange) -> Node
     ensures { λ r. ⌜ r ≡ withChange node sender change ⌝ }
 {
     match change {
-        Change::Nothing => node,
-        Change::Row(row) => with_row(node, sender, row),
-        Change::Counted(incarnation) => with_counted(node, sender, incarnation),
-        Change::Confirming(incarnation) => confirming(node, sender, incarnation),
-        Change::Ended => write_ended(node),
+        NodeChange::Nothing => node,
+        NodeChange::Row(row) => with_row(node, sender, row),
+        NodeChange::Counted(incarnation) => with_counted(node, sender, incarnation),
+        NodeChange::Confirming(incarnation) => confirming(node, sender, incarnation),
+        NodeChange::Ended => write_ended(node),
     }
 }
 

@@ -2,12 +2,12 @@
 mod decision;
 mod view;
 
-pub use decision::Change;
 pub use decision::Decision;
+pub use decision::NodeChange;
 pub use decision::changed;
 pub use decision::ok;
 pub use decision::refused;
 pub use decision::step_of;
-pub use view::View;
+pub use view::SenderView;
 pub use view::own_write;
 pub use view::view_of;

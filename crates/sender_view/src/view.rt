@@ -8,16 +8,13 @@ use node::count_peers;
 use protocol::Node;
 use protocol::Peer;
 use protocol::Phase;
-ghost use Prim.Native.Nat.{ℕ};
 ghost use mathlib.Core.Path.{_≡_};
 ghost use lib.ListN.{set};
 ghost use Rattle.protocol.specs.Node.{countPeers};
-ghost use Rattle.protocol.specs.Storing.{ownWrite};
-ghost use Rattle.protocol.specs.declared.Node.{Node};
-ghost use Rattle.sender_view.specs.View.{somePeer, viewOf, Sees};
+ghost use Rattle.sender_view.specs.View.{somePeer, viewOf, ownWriteIn};
 
 // What a node is to one sender.
-pub struct View {
+pub struct SenderView {
     // How many nodes the group has.
     pub n: usize,
     pub incarnation: Incarnation,
@@ -52,7 +49,7 @@ fn count_with(peers: [Peer; Node::MAX_ROWS], sender: usize) -> usize
 
 // What the node is to this sender. Rows and peers are read here and not by `node::row_of` and `node::peer_of`, which take
 // the whole node or a list by value: the compiler would copy it for each of them. Past the last row they read as there.
-pub fn view_of(node: Node, sender: usize) -> View
+pub fn view_of(node: Node, sender: usize) -> SenderView
     ensures { λ r. ⌜ r ≡ viewOf node sender ⌝ }
 {
     let number = node.number;
@@ -73,7 +70,7 @@ pub fn view_of(node: Node, sender: usize) -> View
     }
     let item = own.item;
     let peers = node.counted;
-    View {
+    SenderView {
         n: node.n,
         incarnation: incarnation,
         attempt: attempt,
@@ -87,8 +84,8 @@ pub fn view_of(node: Node, sender: usize) -> View
 }
 
 // Whether other incarnation, attempt and item are the node's own present ones.
-pub fn own_write(view: View, other: Incarnation, attempt: Attempt, item: Item) -> bool
-    ensures { λ r. ⌜ ((node : Node) (sender : ℕ) → Sees view node sender → r ≡ ownWrite node other attempt item) ⌝ }
+pub fn own_write(view: SenderView, other: Incarnation, attempt: Attempt, item: Item) -> bool
+    ensures { λ r. ⌜ r ≡ ownWriteIn view other attempt item ⌝ }
 {
     if !other.same(view.incarnation) {
         return false;

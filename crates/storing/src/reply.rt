@@ -10,17 +10,14 @@ use phase::is_up;
 use protocol::Refusal;
 use protocol::Sends;
 use protocol::Verdict;
-use sender_view::Change;
 use sender_view::Decision;
-use sender_view::View;
+use sender_view::NodeChange;
+use sender_view::SenderView;
 use sender_view::ok;
 use sender_view::refused;
-ghost use Prim.Native.Nat.{ℕ};
 ghost use mathlib.Core.Path.{_≡_};
-ghost use Rattle.protocol.specs.declared.Node.{Node};
-ghost use Rattle.sender_view.specs.View.{Sees};
-ghost use Rattle.sender_view.specs.Decision.{stepBy};
-ghost use Rattle.protocol.specs.Storing.{storeVerdict, replyStore, onStore};
+ghost use Rattle.protocol.specs.Storing.{storeVerdict};
+ghost use Rattle.storing.specs.Decisions.{replyDecision, storeDecision};
 
 // What the row says to an item stored under these counters (refusals 12, 13, 10).
 fn store_verdict(row: Row, incarnation: Incarnation, attempt: Attempt, item: Item) -> Verdict
@@ -43,7 +40,7 @@ fn store_verdict(row: Row, incarnation: Incarnation, attempt: Attempt, item: Ite
 
 // Where the verdict is to take it, the sender's row takes the item with these counters, and Stored goes back.
 fn reply_store(verdict: Verdict, incarnation: Incarnation, attempt: Attempt, item: Item) -> Decision
-    ensures { λ r. ⌜ ((node : Node) (sender : ℕ) → stepBy node sender r ≡ replyStore verdict node sender incarnation attempt item) ⌝ }
+    ensures { λ r. ⌜ r ≡ replyDecision verdict incarnation attempt item ⌝ }
 {
     match verdict {
         Verdict::Refuse(why) => refused(why),
@@ -55,7 +52,7 @@ fn reply_store(verdict: Verdict, incarnation: Incarnation, attempt: Attempt, ite
                 marked: false,
             };
             ok(
-                Change::Row(row),
+                NodeChange::Row(row),
                 Sends::Back(Message::Stored {
                     other: incarnation,
                     attempt: attempt,
@@ -67,8 +64,13 @@ fn reply_store(verdict: Verdict, incarnation: Incarnation, attempt: Attempt, ite
 }
 
 // Store: refused with 9, 12, 13 or 10; otherwise the sender's row takes the item, and Stored goes back.
-pub fn on_store(view: View, incarnation: Incarnation, attempt: Attempt, item: Item) -> Decision
-    ensures { λ r. ⌜ ((node : Node) (sender : ℕ) → Sees view node sender → stepBy node sender r ≡ onStore node sender incarnation attempt item) ⌝ }
+pub fn on_store(
+    view: SenderView,
+    incarnation: Incarnation,
+    attempt: Attempt,
+    item: Item,
+) -> Decision
+    ensures { λ r. ⌜ r ≡ storeDecision view incarnation attempt item ⌝ }
 {
     let phase = view.phase;
     if !is_up(phase) {

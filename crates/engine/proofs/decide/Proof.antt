@@ -1,6 +1,5 @@
 -- `engine::decide` meets its contract: an arm for each kind, and each but Table is one call.
-use Rattle.protocol.specs.Deliver.{onMessage}
-use Rattle.engine.specs.Decided.{decidedStep}
+use Rattle.engine.specs.Decided.{decided}
 use borrow.Author.Needs.{needs}
 use Rattle.engine.proofs.decide.Statement.{statement}
 use Rattle.engine.proofs.decide.Tie as tie
@@ -39,28 +38,28 @@ enum-known-message-5 : tie.Need-enum-known-message-5
 enum-known-message-5 c = search needs
 
 returns : tie.Need-returns
-unfolding decidedStep onMessage
-returns c node sender items e = rw (c .on-store .ensures node sender e, c .before .before .message .given .1)
+unfolding decided
+returns c = rw (c .on-store .ensures, c .before .before .message .given .1)
 
 returns-2 : tie.Need-returns-2
-unfolding decidedStep onMessage
-returns-2 c node sender items e = rw (c .on-stored .ensures node sender e, c .before .before .message2 .given .1)
+unfolding decided
+returns-2 c = rw (c .on-stored .ensures, c .before .before .message2 .given .1)
 
 returns-3 : tie.Need-returns-3
-unfolding decidedStep onMessage
-returns-3 c node sender items e = rw (c .on-confirm .ensures node sender e, c .before .before .message3 .given .1)
+unfolding decided
+returns-3 c = rw (c .on-confirm .ensures, c .before .before .message3 .given .1)
 
 returns-4 : tie.Need-returns-4
-unfolding decidedStep onMessage
-returns-4 c node sender items e = rw (c .on-confirmed .ensures node sender e, c .before .before .message4 .given .1)
+unfolding decided
+returns-4 c = rw (c .on-confirmed .ensures, c .before .before .message4 .given .1)
 
 returns-5 : tie.Need-returns-5
-unfolding decidedStep onMessage
-returns-5 c node sender items e = rw (c .on-fetch .ensures node sender e, c .before .enum-told .given .1)
+unfolding decided
+returns-5 c = rw (c .on-fetch .ensures, c .before .enum-told .given .1)
 
 returns-6 : tie.Need-returns-6
-unfolding decidedStep onMessage
-returns-6 c node sender items e = rw (c .before .message5 .given .1)
+unfolding decided
+returns-6 c = rw (c .before .message5 .given .1)
 
 pub decide-spec : {M : Type 1} → statement M
 decide-spec =

@@ -1,7 +1,8 @@
 -- `engine::deliver` meets its contract: what is decided by what is seen of the node, or by the whole node.
-use mathlib.Core.Path.{sym, _∙_}
+use mathlib.Core.Path.{_∙_}
 use Rattle.protocol.specs.Deliver.{deliverStep}
 use Rattle.engine.specs.Decided.{decidedStep}
+use Rattle.engine.proofs.Agree.{decided-agrees}
 use borrow.Author.Needs.{needs}
 use Rattle.engine.proofs.deliver.Statement.{statement}
 use Rattle.engine.proofs.deliver.Tie as tie
@@ -28,15 +29,15 @@ returns : tie.Need-returns
 unfolding decidedStep deliverStep
 returns c =
     let a = c .before .before .before .before .before .before .before .args in
-    let decided = c .before .before .before .before .decide .ensures (a .node) (a .envelope .sender) (a .items) (sym (c .before .before .before .before .before .view-of .ensures)) in
-    c .step-of .ensures ∙ rw (c .before .before .decision .given .1) at decided
+    let decided = decided-agrees (a .envelope .message) (a .node) (a .envelope .sender) (a .envelope .incarnation) (a .items) in
+    c .step-of .ensures ∙ rw (← c .before .before .before .before .before .view-of .ensures, ← c .before .before .before .before .decide .ensures, c .before .before .decision .given .1) at decided
 
 returns-2 : tie.Need-returns-2
 unfolding decidedStep deliverStep
 returns-2 c =
     let a = c .before .before .before .before .before .before .before .args in
-    let decided = c .before .before .before .before .decide .ensures (a .node) (a .envelope .sender) (a .items) (sym (c .before .before .before .before .before .view-of .ensures)) in
-    c .on-table .ensures ∙ rw (c .before .before .other .given .1) at decided
+    let decided = decided-agrees (a .envelope .message) (a .node) (a .envelope .sender) (a .envelope .incarnation) (a .items) in
+    c .on-table .ensures ∙ rw (← c .before .before .before .before .before .view-of .ensures, ← c .before .before .before .before .decide .ensures, c .before .before .other .given .1) at decided
 
 pub deliver-spec : {M : Type 1} → statement M
 deliver-spec =

@@ -1,10 +1,7 @@
 -- `confirming::settle::confirmed_counted` meets its contract: the count is held to f.
 use borrow.Author.Tests.{lt-ltb, le-ltb}
-use Rattle.sender_view.specs.Decision.{changed, stepBy}
-use Rattle.protocol.specs.Answer.{ok}
-use Rattle.protocol.specs.Node.{rowOf, ownItem, withCounted, writeEnded}
-use Rattle.protocol.specs.Storing.{storeSuccess, confirmedCounted}
-use Rattle.sender_view.proofs.Seen.{phase-seen, own-seen, below-half-seen}
+use Rattle.sender_view.specs.View.{belowHalfIn}
+use Rattle.confirming.specs.Decisions.{confirmedCountedDecision}
 use Rattle.confirming.proofs.settle.confirmed_counted.Statement.{statement}
 use Rattle.confirming.proofs.settle.confirmed_counted.Tie as tie
 
@@ -15,19 +12,19 @@ ok-requires : tie.Need-ok-requires
 ok-requires c κs = tt
 
 returns : tie.Need-returns
-unfolding confirmedCounted stepBy changed ok
-returns c node sender e =
-    let few = rw (c .before .before .before .half .ensures, below-half-seen node sender e (c .before .before .before .before .args .incarnation)) at (lt-ltb _ _ (c .before .if1 .taken)) in
+unfolding confirmedCountedDecision belowHalfIn
+returns c =
+    let few = rw (c .before .before .before .half .ensures) at (lt-ltb _ _ (c .before .if1 .taken)) in
     rw (c .ok .ensures, few)
 
 store-success-requires : tie.Need-store-success-requires
 store-success-requires c κs = tt
 
 returns-2 : tie.Need-returns-2
-unfolding confirmedCounted storeSuccess stepBy changed writeEnded withCounted ownItem rowOf
-returns-2 c node sender e =
-    let enough = rw (c .before .before .before .before .half .ensures, below-half-seen node sender e (c .before .before .before .before .before .args .incarnation)) at (le-ltb _ _ (c .before .before .if1 .left)) in
-    rw (c .store-success .ensures, phase-seen node sender e, own-seen node sender e, enough)
+unfolding confirmedCountedDecision belowHalfIn
+returns-2 c =
+    let enough = rw (c .before .before .before .before .half .ensures) at (le-ltb _ _ (c .before .before .if1 .left)) in
+    rw (c .store-success .ensures, enough)
 
 pub confirmed-counted-spec : {M : Type 1} → statement M
 confirmed-counted-spec =

@@ -1,10 +1,6 @@
 -- `storing::count::on_stored` meets its contract: a refusal for each test, and the sender counted.
 use Rattle.item.specs.Tests.{refuted, granted}
-use Rattle.node.proofs.Answered.{answered}
-use Rattle.sender_view.specs.Decision.{changed, stepBy}
-use Rattle.protocol.specs.Answer.{refused}
-use Rattle.protocol.specs.Storing.{onStored}
-use Rattle.sender_view.proofs.Seen.{phase-seen, counted-seen}
+use Rattle.storing.specs.Decisions.{storedDecision}
 use Rattle.storing.proofs.count.on_stored.Statement.{statement}
 use Rattle.storing.proofs.count.on_stored.Tie as tie
 
@@ -15,10 +11,8 @@ refused-requires : tie.Need-refused-requires
 refused-requires c κs = tt
 
 returns : tie.Need-returns
-unfolding onStored stepBy changed refused
-returns c node sender e =
-    let resting = rw (phase-seen node sender e) at (refuted (c .before .before .is-storing .ensures) (c .before .if1 .taken)) in
-    rw (c .refused .ensures, resting)
+unfolding storedDecision
+returns c = rw (c .refused .ensures, refuted (c .before .before .is-storing .ensures) (c .before .if1 .taken))
 
 own-write-requires : tie.Need-own-write-requires
 own-write-requires c κs = tt
@@ -27,30 +21,30 @@ refused-requires-2 : tie.Need-refused-requires-2
 refused-requires-2 c κs = tt
 
 returns-2 : tie.Need-returns-2
-unfolding onStored stepBy changed refused
-returns-2 c node sender e =
-    let storing = rw (phase-seen node sender e) at (granted (c .before .before .before .before .is-storing .ensures) (c .before .before .before .if1 .left)) in
-    rw (c .refused2 .ensures, storing, refuted (c .before .before .own-write .ensures node sender e) (c .before .if2 .taken))
+unfolding storedDecision
+returns-2 c =
+    let storing = granted (c .before .before .before .before .is-storing .ensures) (c .before .before .before .if1 .left) in
+    rw (c .refused2 .ensures, storing, refuted (c .before .before .own-write .ensures) (c .before .if2 .taken))
 
 refused-requires-3 : tie.Need-refused-requires-3
 refused-requires-3 c κs = tt
 
 returns-3 : tie.Need-returns-3
-unfolding onStored stepBy changed refused
-returns-3 c node sender e =
-    let storing = rw (phase-seen node sender e) at (granted (c .before .before .before .before .before .is-storing .ensures) (c .before .before .before .before .if1 .left)) in
-    let own = granted (c .before .before .before .own-write .ensures node sender e) (c .before .before .if2 .left) in
-    rw (c .refused3 .ensures, storing, own, answered (counted-seen node sender e) (c .before .if3 .taken))
+unfolding storedDecision
+returns-3 c =
+    let storing = granted (c .before .before .before .before .before .is-storing .ensures) (c .before .before .before .before .if1 .left) in
+    let own = granted (c .before .before .before .own-write .ensures) (c .before .before .if2 .left) in
+    rw (c .refused3 .ensures, storing, own, c .before .if3 .taken)
 
 stored-counted-requires : tie.Need-stored-counted-requires
 stored-counted-requires c κs = tt
 
 returns-4 : tie.Need-returns-4
-unfolding onStored
-returns-4 c node sender e =
-    let storing = rw (phase-seen node sender e) at (granted (c .before .before .before .before .before .is-storing .ensures) (c .before .before .before .before .if1 .left)) in
-    let own = granted (c .before .before .before .own-write .ensures node sender e) (c .before .before .if2 .left) in
-    rw (c .stored-counted .ensures node sender e, storing, own, answered (counted-seen node sender e) (c .before .if3 .left))
+unfolding storedDecision
+returns-4 c =
+    let storing = granted (c .before .before .before .before .before .is-storing .ensures) (c .before .before .before .before .if1 .left) in
+    let own = granted (c .before .before .before .own-write .ensures) (c .before .before .if2 .left) in
+    rw (c .stored-counted .ensures, storing, own, c .before .if3 .left)
 
 pub on-stored-spec : {M : Type 1} → statement M
 on-stored-spec =
