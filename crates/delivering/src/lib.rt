@@ -46,7 +46,7 @@ pub fn deliver_message(s: &mut [u8], node: Node, free: usize, reading: Reading, 
     let message = envelope.message;
     let view = view_of(node, sender);
     match decide(view, incarnation, message) {
-        Decided::Seen(decision) => carry_decision(s, node, free, sender, decision),
+        Decided::Change(decision) => carry_decision(s, node, free, sender, decision),
         Decided::Table(other) => {
             deliver_table(s, node, free, r as usize, sender, incarnation, other)
         }
