@@ -5,14 +5,14 @@ use engine::crash;
 use engine::retry;
 use engine::start;
 use engine::write;
-pub use event::Acted;
-pub use event::Seen;
+pub use event::Inspection;
+pub use event::NodeResult;
 use event::carry_out;
 use event::drop_message;
 pub use event::drop_record;
 use event::first_verdict;
-pub use event::inspect::dropping;
-pub use event::inspect::look;
+pub use event::inspect::drop_target;
+pub use event::inspect::inspect;
 pub use event::inspect::read;
 use event::refused;
 use message::Reading;
@@ -22,10 +22,10 @@ use protocol::Refusal;
 use protocol::Step;
 use protocol::Verdict;
 ghost use mathlib.Core.Path.{_≡_};
-ghost use Rattle.event.specs.Act.{handedBack, atNode, onSound, acted};
+ghost use Rattle.event.specs.Act.{handedBack, atNode, onSound, performAt};
 
 // The decision of node `k`, where the group has this node.
-fn at_node(s: &mut [u8], node: Node, seen: Seen, k: u64, step: Step) -> Acted
+fn at_node(s: &mut [u8], node: Node, seen: Inspection, k: u64, step: Step) -> NodeResult
     ensures { λ r. ⌜ (r ≡ handedBack (atNode node (now (s .entry)) seen k step)) × (now (s .exit) ≡ atNode node (now (s .entry)) seen k step .store) ⌝ }
 {
     if seen.n <= k as usize {
@@ -35,7 +35,13 @@ fn at_node(s: &mut [u8], node: Node, seen: Seen, k: u64, step: Step) -> Acted
 }
 
 // An event on a sound table and store, at its node.
-fn on_sound(s: &mut [u8], node: Node, seen: Seen, reading: Reading, event: Event) -> Acted
+fn on_sound(
+    s: &mut [u8],
+    node: Node,
+    seen: Inspection,
+    reading: Reading,
+    event: Event,
+) -> NodeResult
     ensures { λ r. ⌜ (r ≡ handedBack (onSound event node (now (s .entry)) seen reading)) × (now (s .exit) ≡ onSound event node (now (s .entry)) seen reading .store) ⌝ }
 {
     match event {
@@ -43,7 +49,7 @@ fn on_sound(s: &mut [u8], node: Node, seen: Seen, reading: Reading, event: Event
         Event::Retry { node: k } => at_node(s, node, seen, k, retry(node)),
         Event::Crash { node: k } => at_node(s, node, seen, k, crash(node)),
         Event::Start { node: k } => at_node(s, node, seen, k, start(node)),
-        Event::Drop { record } => Acted {
+        Event::Drop { record } => NodeResult {
             answer: drop_message(s, reading, record),
             node: node,
         },
@@ -57,11 +63,11 @@ pub fn act(
     s: &mut [u8],
     node: Node,
     sound_table: bool,
-    seen: Seen,
+    seen: Inspection,
     reading: Reading,
     event: Event,
-) -> Acted
-    ensures { λ r. ⌜ (r ≡ handedBack (acted event «sound_table» seen reading node (now (s .entry)))) × (now (s .exit) ≡ acted event «sound_table» seen reading node (now (s .entry)) .store) ⌝ }
+) -> NodeResult
+    ensures { λ r. ⌜ (r ≡ handedBack (performAt event «sound_table» seen reading node (now (s .entry)))) × (now (s .exit) ≡ performAt event «sound_table» seen reading node (now (s .entry)) .store) ⌝ }
 {
     match first_verdict(s, sound_table, seen) {
         Verdict::Refuse(why) => refused(why, node),

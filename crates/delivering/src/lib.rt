@@ -2,7 +2,7 @@
 use engine::Decided;
 use engine::decide;
 use engine::on_table;
-use event::Acted;
+use event::NodeResult;
 use event::carry_decision;
 use event::carry_out;
 use event::refused;
@@ -25,7 +25,7 @@ fn deliver_table(
     sender: usize,
     incarnation: Incarnation,
     other: Incarnation,
-) -> Acted
+) -> NodeResult
     ensures { λ a. ⌜ (a ≡ handedBack (carriedOut node (now (s .entry)) free sender (onTable node sender incarnation other (rowsOf (recordOf (now (s .entry)) r))))) × (now (s .exit) ≡ carriedOut node (now (s .entry)) free sender (onTable node sender incarnation other (rowsOf (recordOf (now (s .entry)) r))) .store) ⌝ }
 {
     let items = record_read::rows(s, r);
@@ -35,7 +35,13 @@ fn deliver_table(
 
 // Delivery of the message `reading` in record `r`, where so many records are free. Only the rows of a Table are read from
 // the record.
-pub fn deliver_message(s: &mut [u8], node: Node, free: usize, reading: Reading, r: u64) -> Acted
+pub fn deliver_message(
+    s: &mut [u8],
+    node: Node,
+    free: usize,
+    reading: Reading,
+    r: u64,
+) -> NodeResult
     ensures { λ a. ⌜ (a ≡ handedBack (delivered reading node (now (s .entry)) free r)) × (now (s .exit) ≡ delivered reading node (now (s .entry)) free r .store) ⌝ }
 {
     let Reading::Found(envelope) = reading else {

@@ -16,32 +16,32 @@ use Rattle.answers.specs.declared.Reply.{Reply}
 use Rattle.script.specs.Bytes.{lineFeed}
 use Rattle.script.specs.Place.{placed, placeAfter}
 use Rattle.script.proofs.Writing.{placed-fits, placed-none, after-fits, after-none}
-use Rattle.script.specs.Pending.{mostBytes, noneYet, pushed, pushedAll, pendingLine}
+use Rattle.script.specs.LineBuffer.{mostBytes, noneYet, pushed, pushedAll, bufferedLine}
 use Rattle.script.specs.declared.Line.{Line}
-use Rattle.script.specs.declared.buffer.Pending.{Pending}
+use Rattle.script.specs.declared.buffer.LineBuffer.{LineBuffer}
 use Rattle.record.specs.Layout.{recordSize}
 use Rattle.script.proofs.Gathered.{gathered, gathered-length}
 use Rattle.store.specs.Records.{recordCount}
 use Rattle.drill_state.specs.Turn.{Done, noGroup, lineDone}
 use Rattle.drill_state.specs.Drill.{lastOutput, outputFrom, drillOutput}
-use Rattle.drill_state.specs.Feeding.{atStart, pendingOutput, progressOutput, lineFeeds, Counted}
+use Rattle.drill_state.specs.Feeding.{atStart, bufferedOutput, progressOutput, lineFeeds, Counted}
 use Rattle.drill_state.specs.declared.Drill.{Drill}
 use Rattle.drill_state.specs.declared.Turn.{Turn}
 
 -- after the first i bytes of a piece: what is printed stands in the first `at` bytes of `out`, and what is left to come
 -- prints the rest
-abbrev pub Upto : List ℕ → ℕ → Pending → Drill → List ℕ → List ℕ → ℕ → ℕ → ℕ → Pending → Drill → List ℕ → Type 0
+abbrev pub Upto : List ℕ → ℕ → LineBuffer → Drill → List ℕ → List ℕ → ℕ → ℕ → ℕ → LineBuffer → Drill → List ℕ → Type 0
 Upto piece count₀ pending₀ drill₀ store₀ out at i count pending drill store =
-    (rest : List ℕ) → pendingOutput count₀ pending₀ drill₀ store₀ (piece ++ rest) ≡ take at out ++ pendingOutput count pending drill store (drop i piece ++ rest)
+    (rest : List ℕ) → bufferedOutput count₀ pending₀ drill₀ store₀ (piece ++ rest) ≡ take at out ++ bufferedOutput count pending drill store (drop i piece ++ rest)
 
-in-line : (count : ℕ) (pending : Pending) (drill : Drill) (store : List ℕ) (b : ℕ) (bs : List ℕ) → (b ≡ lineFeed → ⊥)
-    → pendingOutput count pending drill store (b ∷ bs) ≡ pendingOutput count (pushed pending b) drill store bs
-unfolding pendingOutput
+in-line : (count : ℕ) (pending : LineBuffer) (drill : Drill) (store : List ℕ) (b : ℕ) (bs : List ℕ) → (b ≡ lineFeed → ⊥)
+    → bufferedOutput count pending drill store (b ∷ bs) ≡ bufferedOutput count (pushed pending b) drill store bs
+unfolding bufferedOutput
 in-line count pending drill store b bs h = rw (ne-eqb b lineFeed h)
 
-pub ends-line : (count : ℕ) (pending : Pending) (drill : Drill) (store : List ℕ) (b : ℕ) (bs : List ℕ) → b ≡ lineFeed
-    → pendingOutput count pending drill store (b ∷ bs) ≡ outputLine (suc count) (lineDone (pendingLine pending) drill store .turn .reply) ++ pendingOutput (suc count) noneYet (lineDone (pendingLine pending) drill store .turn .drill) (lineDone (pendingLine pending) drill store .store) bs
-unfolding pendingOutput
+pub ends-line : (count : ℕ) (pending : LineBuffer) (drill : Drill) (store : List ℕ) (b : ℕ) (bs : List ℕ) → b ≡ lineFeed
+    → bufferedOutput count pending drill store (b ∷ bs) ≡ outputLine (suc count) (lineDone (bufferedLine pending) drill store .turn .reply) ++ bufferedOutput (suc count) noneYet (lineDone (bufferedLine pending) drill store .turn .drill) (lineDone (bufferedLine pending) drill store .store) bs
+unfolding bufferedOutput
 ends-line count pending drill store b bs h = rw (eq-eqb b lineFeed h)
 
 -- text that was set stands after what stood before it
@@ -77,15 +77,15 @@ line-within out at count r out′ at′ h e = by-room (leb (at + lineRoom) (leng
         (omega (arith, a, l), l)
 
 -- one byte more is kept of a line, or none; and of a line of which nothing has come there is none
-pub byte-kept : (p q : Pending) (b : ℕ) → q ≡ pushed p b → q .len ≤ p .len + 1
+pub byte-kept : (p q : LineBuffer) (b : ℕ) → q ≡ pushed p b → q .len ≤ p .len + 1
 unfolding pushed
 byte-kept p q b e =
     rw e
-    (by-cond (λ (k : Pending). k .len ≤ p .len + 1) (ltb (p .len) mostBytes) (record { bytes = set (p .bytes) (p .len) b; len = suc (p .len) }) p
+    (by-cond (λ (k : LineBuffer). k .len ≤ p .len + 1) (ltb (p .len) mostBytes) (record { bytes = set (p .bytes) (p .len) b; len = suc (p .len) }) p
     (λ _. omega arith)
     (λ _. omega arith))
 
-pub none-kept : (q : Pending) → q ≡ noneYet → q .len ≡ 0
+pub none-kept : (q : LineBuffer) → q ≡ noneYet → q .len ≡ 0
 unfolding noneYet
 none-kept q e = rw e
 
@@ -113,23 +113,23 @@ module _ (piece : List ℕ) (count₀ len₀ i at count len : ℕ) (k : Counted 
       let e : lineFeeds (drop i piece) ≡ suc (lineFeeds (drop (i + 1) piece)) = rw (drop-cons piece i 0 h, eq-eqb (getD piece i 0) lineFeed n, add-one) in
       record { bytes = omega (arith, k .bytes, l); lines = omega (arith, k .lines, e); room = omega (arith, k .room, a) }
 
-module _ (piece : List ℕ) (count₀ : ℕ) (pending₀ : Pending) (drill₀ : Drill) (store₀ : List ℕ) where
-  pub one-byte : (out : List ℕ) (at i count : ℕ) (pending : Pending) (drill : Drill) (store : List ℕ) → i < length piece → (getD piece i 0 ≡ lineFeed → ⊥)
+module _ (piece : List ℕ) (count₀ : ℕ) (pending₀ : LineBuffer) (drill₀ : Drill) (store₀ : List ℕ) where
+  pub one-byte : (out : List ℕ) (at i count : ℕ) (pending : LineBuffer) (drill : Drill) (store : List ℕ) → i < length piece → (getD piece i 0 ≡ lineFeed → ⊥)
       → Upto piece count₀ pending₀ drill₀ store₀ out at i count pending drill store → Upto piece count₀ pending₀ drill₀ store₀ out at (i + 1) count (pushed pending (getD piece i 0)) drill store
   one-byte out at i count pending drill store h n so rest =
       so rest ∙ rw (drop-cons piece i 0 h, add-one, in-line count pending drill store (getD piece i 0) (drop (suc i) piece ++ rest) n)
 
-  pub one-line : (out : List ℕ) (at i count : ℕ) (pending : Pending) (drill : Drill) (store : List ℕ) → i < length piece → getD piece i 0 ≡ lineFeed → at + lineRoom ≤ length out
-      → (turn : Turn) (store′ out′ : List ℕ) (at′ : ℕ) → turn ≡ lineDone (pendingLine pending) drill store .turn → store′ ≡ lineDone (pendingLine pending) drill store .store
+  pub one-line : (out : List ℕ) (at i count : ℕ) (pending : LineBuffer) (drill : Drill) (store : List ℕ) → i < length piece → getD piece i 0 ≡ lineFeed → at + lineRoom ≤ length out
+      → (turn : Turn) (store′ out′ : List ℕ) (at′ : ℕ) → turn ≡ lineDone (bufferedLine pending) drill store .turn → store′ ≡ lineDone (bufferedLine pending) drill store .store
       → (at′ ≡ placeAfter lineRoom out at (outputLine (count + 1) (turn .reply))) × (out′ ≡ placed lineRoom out at (outputLine (count + 1) (turn .reply)))
       → Upto piece count₀ pending₀ drill₀ store₀ out at i count pending drill store → Upto piece count₀ pending₀ drill₀ store₀ out′ at′ (i + 1) (count + 1) noneYet (turn .drill) store′
   one-line out at i count pending drill store h f room turn store′ out′ at′ et es ep so rest =
       so rest ∙
       rw (drop-cons piece i 0 h, ends-line count pending drill store (getD piece i 0) (drop (suc i) piece ++ rest) f, line-stands out at (count + 1) (turn .reply) out′ at′ room ep, et, es, add-one, add-one)
-      (sym (append-assoc (take at out) (outputLine (suc count) (lineDone (pendingLine pending) drill store .turn .reply)) _))
+      (sym (append-assoc (take at out) (outputLine (suc count) (lineDone (bufferedLine pending) drill store .turn .reply)) _))
 
 -- ---- the program's output is the drill's
-push-last : (p : Pending) (bs : List ℕ) (b : ℕ) → pushedAll p (bs ++ (b ∷ [])) ≡ pushed (pushedAll p bs) b
+push-last : (p : LineBuffer) (bs : List ℕ) (b : ℕ) → pushedAll p (bs ++ (b ∷ [])) ≡ pushed (pushedAll p bs) b
 unfolding pushedAll
 push-last p [] b = refl
 push-last p (x ∷ bs) b = push-last (pushed p x) bs b
@@ -142,14 +142,14 @@ last-alike count (b ∷ bs) =
 
 -- keeping 64 bytes of a line changes nothing of what is printed
 pub kept-alike : (bs line : List ℕ) (count : ℕ) (drill : Drill) (store : List ℕ)
-    → pendingOutput count (pushedAll noneYet line) drill store bs ≡ outputFrom count line drill store bs
-unfolding pendingOutput outputFrom pushedAll
+    → bufferedOutput count (pushedAll noneYet line) drill store bs ≡ outputFrom count line drill store bs
+unfolding bufferedOutput outputFrom pushedAll
 kept-alike [] line count drill store = last-alike count line
 kept-alike (b ∷ bs) line count drill store =
-    let kept = lineDone (pendingLine (pushedAll noneYet line)) drill store in
+    let kept = lineDone (bufferedLine (pushedAll noneYet line)) drill store in
     let ended = (λ (i : 𝕀). outputLine (suc count) (kept .turn .reply) ++ kept-alike bs [] (suc count) (kept .turn .drill) (kept .store) i) ∙
     ap (λ (l : Line). outputLine (suc count) (lineDone l drill store .turn .reply) ++ outputFrom (suc count) [] (lineDone l drill store .turn .drill) (lineDone l drill store .store) bs) (gathered line) in
-    let longer = ap (λ (p : Pending). pendingOutput count p drill store bs) (sym (push-last noneYet line b)) ∙ kept-alike bs (line ++ (b ∷ [])) count drill store in
+    let longer = ap (λ (p : LineBuffer). bufferedOutput count p drill store bs) (sym (push-last noneYet line b)) ∙ kept-alike bs (line ++ (b ∷ [])) count drill store in
     λ i. cond (eqb b lineFeed) (ended i) (longer i)
 
 -- so the program prints, from its start on, the drill's output

@@ -13,9 +13,9 @@ use Rattle.script.specs.Bytes.{lineFeed}
 use Rattle.script.specs.Place.{placed, placeAfter}
 use Rattle.script.specs.declared.Asked.{Asked}
 use Rattle.script.specs.Operated.{operated, operatedFirst, putFirst}
-use Rattle.script.specs.Pending.{noneYet, pushed, pendingLine}
-use Rattle.script.specs.declared.buffer.Pending.{Pending}
-use Rattle.drill_state.specs.Feeding.{pendingOutput, progressOutput, Counted}
+use Rattle.script.specs.LineBuffer.{noneYet, pushed, bufferedLine}
+use Rattle.script.specs.declared.buffer.LineBuffer.{LineBuffer}
+use Rattle.drill_state.specs.Feeding.{bufferedOutput, progressOutput, Counted}
 use Rattle.drill_state.proofs.FeedingLaws.{one-byte, one-line, ends-line, line-stands, line-within, line-room, byte-kept, none-kept, counted-start, counted-byte, counted-line}
 use Rattle.drill_state.specs.Turn.{Done, answered, begun, called, lineDone, lineFor, readDone, unread}
 use Rattle.drill_state.specs.declared.Drill.{Drill}
@@ -53,8 +53,8 @@ module _ (piece : List ℕ) (before : Progress) (storeBefore : List ℕ) (nodes 
   abbrev At : List ℕ → Position → Type 0
   At out p = Reached piece before storeBefore out p nodes store
 
-  module _ (out : List ℕ) (next at count : ℕ) (pending : Pending) (n : ℕ) (h : next < length piece) (so : At out (restingAt next at count pending n)) where
-    pub rest-byte : (getD piece next 0 ≡ lineFeed → ⊥) → (pending′ : Pending) → pending′ ≡ pushed pending (getD piece next 0) → At out (restingAt (next + 1) at count pending′ n)
+  module _ (out : List ℕ) (next at count : ℕ) (pending : LineBuffer) (n : ℕ) (h : next < length piece) (so : At out (restingAt next at count pending n)) where
+    pub rest-byte : (getD piece next 0 ≡ lineFeed → ⊥) → (pending′ : LineBuffer) → pending′ ≡ pushed pending (getD piece next 0) → At out (restingAt (next + 1) at count pending′ n)
     unfolding restingAt positionOutput restOutput roomTaken progressOutput
     rest-byte f pending′ e =
         record {
@@ -64,12 +64,12 @@ module _ (piece : List ℕ) (before : Progress) (storeBefore : List ℕ) (nodes 
         }
 
     module _ (f : getD piece next 0 ≡ lineFeed) (room : at + lineRoom ≤ length out) where
-      pub rest-unread : lineFor n (pendingLine pending) ≡ Unread → (out′ : List ℕ) (at′ : ℕ) → Printed out at (outputLine (count + 1) reply.Unread) out′ at′ → (none : Pending) → none ≡ noneYet → At out′ (restingAt (next + 1) at′ (count + 1) none n)
+      pub rest-unread : lineFor n (bufferedLine pending) ≡ Unread → (out′ : List ℕ) (at′ : ℕ) → Printed out at (outputLine (count + 1) reply.Unread) out′ at′ → (none : LineBuffer) → none ≡ noneYet → At out′ (restingAt (next + 1) at′ (count + 1) none n)
       unfolding restingAt positionOutput restOutput roomTaken progressOutput lineDone readDone unread
       rest-unread u out′ at′ e none z =
           let drill : Drill = record { n = n; nodes = nodes } in
           let turn : Turn = record { reply = reply.Unread; drill = drill } in
-          let d : record { turn = turn; store = store } ≡ lineDone (pendingLine pending) drill store = ap (λ (l : Line). readDone l drill store) (sym u) in
+          let d : record { turn = turn; store = store } ≡ lineDone (bufferedLine pending) drill store = ap (λ (l : Line). readDone l drill store) (sym u) in
           record {
             output =
                 rw z
@@ -78,15 +78,15 @@ module _ (piece : List ℕ) (before : Progress) (storeBefore : List ℕ) (nodes 
             counted = counted-line piece (before .count) (before .pending .len) next at count (pending .len) (so .counted) h at′ (none .len) f (line-room out at (count + 1) reply.Unread out′ at′ room e) (none-kept none z);
           }
 
-      pub rest-asks : (line : Line) → line ≡ lineFor n (pendingLine pending) → isAsked line ≡ true → At out (askingAt (next + 1) at (count + 1) n (askedBy n line))
+      pub rest-asks : (line : Line) → line ≡ lineFor n (bufferedLine pending) → isAsked line ≡ true → At out (askingAt (next + 1) at (count + 1) n (askedBy n line))
       unfolding restingAt askingAt positionOutput restOutput answerOutput roomTaken progressOutput lineDone
       rest-asks line l t =
           let drill : Drill = record { n = n; nodes = nodes } in
-          let d : lineDone (pendingLine pending) drill store ≡ done (askedBy n line) n (operatedFirst (askedBy n line) nodes store) = ap (λ (x : Line). readDone x drill store) (sym l) ∙ asked-done line n nodes store t in
+          let d : lineDone (bufferedLine pending) drill store ≡ done (askedBy n line) n (operatedFirst (askedBy n line) nodes store) = ap (λ (x : Line). readDone x drill store) (sym l) ∙ asked-done line n nodes store t in
           record {
             output = λ rest. so .output rest ∙
                 rw (drop-cons piece next 0 h, add-one, add-one, ends-line count pending drill store (getD piece next 0) (drop (suc next) piece ++ rest) f)
-                (ap (λ (x : Done). take at out ++ (outputLine (suc count) (x .turn .reply) ++ pendingOutput (suc count) noneYet (x .turn .drill) (x .store) (drop (suc next) piece ++ rest))) d);
+                (ap (λ (x : Done). take at out ++ (outputLine (suc count) (x .turn .reply) ++ bufferedOutput (suc count) noneYet (x .turn .drill) (x .store) (drop (suc next) piece ++ rest))) d);
             within = (omega arith, room);
             counted = counted-line piece (before .count) (before .pending .len) next at count (pending .len) (so .counted) h (at + lineRoom) (noneYet .len) f (omega arith) (none-kept noneYet refl);
           }
@@ -113,6 +113,6 @@ pub begins : (piece : List ℕ) (start : Progress) (store out : List ℕ) → Re
 unfolding restingAt positionOutput restOutput roomTaken progressOutput
 begins piece start store out = record { output = λ rest. refl; within = (omega arith, omega arith); counted = counted-start piece (start .count) (start .pending .len) }
 
-pub from-rest : (piece out out′ : List ℕ) (x p : Position) (next at count : ℕ) (pending : Pending) (n : ℕ) → x ≡ restingAt next at count pending n → Reads piece out (nothingAsked x) out′ p → Reads piece out (restingAt next at count pending n) out′ p
+pub from-rest : (piece out out′ : List ℕ) (x p : Position) (next at count : ℕ) (pending : LineBuffer) (n : ℕ) → x ≡ restingAt next at count pending n → Reads piece out (nothingAsked x) out′ p → Reads piece out (restingAt next at count pending n) out′ p
 unfolding nothingAsked restingAt
 from-rest piece out out′ x p next at count pending n e r = subst (λ (y : Position). Reads piece out (nothingAsked y) out′ p) e r

@@ -9,8 +9,8 @@ use lib.Dec.{eqb}
 use lib.ListN.{length, take, drop}
 use Rattle.answers.specs.Output.{outputLine, lineRoom}
 use Rattle.script.specs.Bytes.{lineFeed}
-use Rattle.script.specs.Pending.{noneYet, pushed, pendingLine}
-use Rattle.script.specs.declared.buffer.Pending.{Pending}
+use Rattle.script.specs.LineBuffer.{noneYet, pushed, bufferedLine}
+use Rattle.script.specs.declared.buffer.LineBuffer.{LineBuffer}
 use Rattle.drill_state.specs.Turn.{Done, noGroup, lineDone}
 use Rattle.drill_state.specs.Drill.{lastOutput}
 use Rattle.drill_state.specs.declared.Drill.{Drill}
@@ -22,19 +22,19 @@ unfoldable pub atStart : Progress
 atStart = record { count = 0; pending = noneYet; drill = noGroup }
 
 -- what is printed for the bytes still to come
-unfoldable pub pendingOutput : ℕ → Pending → Drill → List ℕ → List ℕ → List ℕ
-pendingOutput count pending drill store [] = lastOutput count (pending .len)
-pendingOutput count pending drill store (b ∷ bs) =
+unfoldable pub bufferedOutput : ℕ → LineBuffer → Drill → List ℕ → List ℕ → List ℕ
+bufferedOutput count pending drill store [] = lastOutput count (pending .len)
+bufferedOutput count pending drill store (b ∷ bs) =
     cond (eqb b lineFeed)
-    (let done : Done = lineDone (pendingLine pending) drill store in
-    outputLine (suc count) (done .turn .reply) ++ pendingOutput (suc count) noneYet (done .turn .drill) (done .store) bs)
-    (pendingOutput count (pushed pending b) drill store bs)
+    (let done : Done = lineDone (bufferedLine pending) drill store in
+    outputLine (suc count) (done .turn .reply) ++ bufferedOutput (suc count) noneYet (done .turn .drill) (done .store) bs)
+    (bufferedOutput count (pushed pending b) drill store bs)
 
 unfoldable pub progressOutput : Progress → List ℕ → List ℕ → List ℕ
-progressOutput p store bs = pendingOutput (p .count) (p .pending) (p .drill) store bs
+progressOutput p store bs = bufferedOutput (p .count) (p .pending) (p .drill) store bs
 
 -- how far a piece was taken, how many bytes were printed for it, and where the drill stands then
-abbrev pub fedAt : ℕ → ℕ → ℕ → Pending → Drill → Fed
+abbrev pub fedAt : ℕ → ℕ → ℕ → LineBuffer → Drill → Fed
 fedAt next at count pending drill = record { next = next; at = at; progress = record { count = count; pending = pending; drill = drill } }
 
 -- how many line feeds there are

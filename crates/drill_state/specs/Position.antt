@@ -9,9 +9,9 @@ use Rattle.answers.specs.Output.{outputLine, lineRoom}
 use Rattle.answers.specs.declared.Reply.the-variants as reply
 use Rattle.script.specs.declared.Asked.{Asked}
 use Rattle.script.specs.Operated.{operatedFirst}
-use Rattle.script.specs.Pending.{noneYet}
-use Rattle.script.specs.declared.buffer.Pending.{Pending}
-use Rattle.drill_state.specs.Feeding.{pendingOutput, progressOutput, Counted}
+use Rattle.script.specs.LineBuffer.{noneYet}
+use Rattle.script.specs.declared.buffer.LineBuffer.{LineBuffer}
+use Rattle.drill_state.specs.Feeding.{bufferedOutput, progressOutput, Counted}
 use Rattle.drill_state.specs.Turn.{sizeAfter}
 use Rattle.drill_state.specs.declared.Progress.{Progress}
 use Rattle.operations.specs.Operation.{Result}
@@ -38,7 +38,7 @@ unfoldable pub sizeThen : Asked → ℕ → Answer → ℕ
 sizeThen asked before answer = cond (asked .begins) (sizeAfter (asked .n) before answer) before
 
 -- every line ended was answered
-unfoldable pub restingAt : ℕ → ℕ → ℕ → Pending → ℕ → Position
+unfoldable pub restingAt : ℕ → ℕ → ℕ → LineBuffer → ℕ → Position
 restingAt next at count pending n = record { next = next; at = at; count = count; pending = pending; n = n; asks = false; asked = askedBy n Unread }
 
 -- the same place, where what was asked is answered
@@ -51,11 +51,11 @@ askingAt next at count n asked = record { next = next; at = at; count = count; p
 
 -- what is printed for the bytes still to come, where nothing is asked, and where an operation with this result was asked
 unfoldable pub restOutput : Position → List Node → List ℕ → List ℕ → List ℕ
-restOutput p nodes store bs = pendingOutput (p .count) (p .pending) (record { n = p .n; nodes = nodes }) store bs
+restOutput p nodes store bs = bufferedOutput (p .count) (p .pending) (record { n = p .n; nodes = nodes }) store bs
 
 unfoldable pub answerOutput : Position → Result → List ℕ → List ℕ
 answerOutput p result bs =
-    outputLine (p .count) (reply.Answered (result .answer)) ++ pendingOutput (p .count) (p .pending) (record { n = sizeThen (p .asked) (p .n) (result .answer); nodes = result .table }) (result .store) bs
+    outputLine (p .count) (reply.Answered (result .answer)) ++ bufferedOutput (p .count) (p .pending) (record { n = sizeThen (p .asked) (p .n) (result .answer); nodes = result .table }) (result .store) bs
 
 unfoldable pub positionOutput : Position → List Node → List ℕ → List ℕ → List ℕ
 positionOutput p nodes store bs = cond (p .asks) (answerOutput p (operatedFirst (p .asked) nodes store) bs) (restOutput p nodes store bs)

@@ -8,7 +8,7 @@ pub use line_reader::Position;
 pub use line_reader::first_line;
 pub use line_reader::next_line;
 use protocol::Node;
-use script::Pending;
+use script::LineBuffer;
 ghost use Prim.Native.Nat.{_+_, _<_, _≤_, _^_};
 ghost use mathlib.Core.Path.{_≡_};
 ghost use lib.ListN.{length, take};
@@ -46,7 +46,7 @@ impl Drill {
 // A drill in its script: how many lines have ended, and what has come of the next one.
 pub struct Progress {
     pub count: u64,
-    pub pending: Pending,
+    pub pending: LineBuffer,
     pub drill: Drill,
 }
 
@@ -64,7 +64,7 @@ impl Progress {
     {
         Progress {
             count: 0,
-            pending: Pending::none(),
+            pending: LineBuffer::none(),
             drill: Drill::none(),
         }
     }

@@ -8,8 +8,8 @@ use protocol::Answer;
 use protocol::Event;
 use script::Asked;
 use script::Line;
-use script::Pending;
-use script::read_pending;
+use script::LineBuffer;
+use script::read_buffer;
 ghost use Prim.Native.Nat.{ℕ, _+_};
 ghost use mathlib.Core.Path.{_≡_};
 ghost use mathlib.Core.List.{List};
@@ -26,7 +26,7 @@ pub struct Position {
     pub next: usize,
     pub at: usize,
     pub count: u64,
-    pub pending: Pending,
+    pub pending: LineBuffer,
     pub n: u64,
     pub asks: bool,
     pub asked: Asked,
@@ -117,7 +117,7 @@ fn has_room(len: usize, at: usize) -> bool
 }
 
 // Every line ended was answered.
-fn resting(next: usize, at: usize, count: u64, pending: Pending, n: u64) -> Position
+fn resting(next: usize, at: usize, count: u64, pending: LineBuffer, n: u64) -> Position
     ensures { λ r. ⌜ r ≡ restingAt next at count pending n ⌝ }
 {
     Position {
@@ -139,7 +139,7 @@ fn asking(next: usize, at: usize, count: u64, n: u64, asked: Asked) -> Position
         next: next,
         at: at,
         count: count,
-        pending: Pending::none(),
+        pending: LineBuffer::none(),
         n: n,
         asks: true,
         asked: asked,
@@ -169,8 +169,8 @@ fn read_on(piece: &[u8], from: Position, out: &mut [u8]) -> Position
         if count == u64::MAX {
             break;
         }
-        let line = line_for(n, read_pending(pending));
-        pending = Pending::none();
+        let line = line_for(n, read_buffer(pending));
+        pending = LineBuffer::none();
         count += 1;
         next += 1;
         if is_asked(line) {

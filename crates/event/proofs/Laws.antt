@@ -27,8 +27,8 @@ use Rattle.protocol.specs.declared.Refusal.the-variants.{StoreLength, Unsound, 
 use Rattle.protocol.specs.declared.Step.{Step}
 use Rattle.protocol.specs.declared.Verdict.{Verdict}
 use Rattle.protocol.specs.declared.Verdict.the-variants.{Take, Refuse}
-use Rattle.event.specs.declared.Seen.{Seen}
-use Rattle.event.specs.Act.{droppingOf, refuse, sentBy, carriedOut, atNode, dropped, delivered, onSound, firstVerdict, admitted, acted}
+use Rattle.event.specs.declared.Inspection.{Inspection}
+use Rattle.event.specs.Act.{dropTargetOf, refuse, sentBy, carriedOut, atNode, dropped, delivered, onSound, firstVerdict, admitted, performAt}
 
 module _ (node : Node) (store : List ℕ) (free back : ℕ) (step : Step) where
   pub carried-refused : isRefused (step .answer) ≡ true → carriedOut node store free back step ≡ record { answer = step .answer; node = node; store = store }
@@ -45,7 +45,7 @@ module _ (node : Node) (store : List ℕ) (free back : ℕ) (step : Step) where
   unfolding carriedOut sentBy
   carried-sent e h = rw (e, le-ltb free (countOutgoing (outgoing (step .node) (step .sends) back)) h)
 
-module _ (node : Node) (store : List ℕ) (seen : Seen) (k : ℕ) (step : Step) where
+module _ (node : Node) (store : List ℕ) (seen : Inspection) (k : ℕ) (step : Step) where
   pub at-none : seen .n ≤ k → atNode node store seen k step ≡ refuse NoNode node store
   unfolding atNode
   at-none h = rw (le-ltb k (seen .n) h)
@@ -73,7 +73,7 @@ module _ (node : Node) (store : List ℕ) (r : ℕ) {m : Reading} where
   delivered-some free {e} step em es =
       ap (λ (k : Reading). delivered k node store free r) em ∙ ap (carriedOut node store free (e .sender)) (sym es)
 
-module _ (node : Node) (store : List ℕ) (seen : Seen) (reading : Reading) {e : Event} where
+module _ (node : Node) (store : List ℕ) (seen : Inspection) (reading : Reading) {e : Event} where
   pub sound-write : {k : ℕ} {tag : Tag} (step : Step) → e ≡ event.Write k tag → step ≡ writeStep node tag → onSound e node store seen reading ≡ atNode node store seen k step
   unfolding onSound
   sound-write {k} step p q = ap (λ (v : Event). onSound v node store seen reading) p ∙ ap (atNode node store seen k) (sym q)
@@ -98,7 +98,7 @@ module _ (node : Node) (store : List ℕ) (seen : Seen) (reading : Reading) {e :
   unfolding onSound
   sound-deliver p = ap (λ (v : Event). onSound v node store seen reading) p
 
-module _ (store : List ℕ) (t : Bool) (seen : Seen) where
+module _ (store : List ℕ) (t : Bool) (seen : Inspection) where
   pub first-length : length store ≢ recordCount * recordSize → firstVerdict store t seen ≡ Refuse StoreLength
   unfolding firstVerdict rightLength
   first-length d = rw (ne-eqb (length store) (recordCount * recordSize) d)
@@ -116,12 +116,12 @@ module _ (store : List ℕ) (t : Bool) (seen : Seen) where
   first-taken p q h = rw (p, q, h)
 
   module _ (reading : Reading) (e : Event) (node : Node) where
-    pub acted-refused : {why : Refusal} → firstVerdict store t seen ≡ Refuse why → acted e t seen reading node store ≡ refuse why node store
-    unfolding acted admitted
+    pub acted-refused : {why : Refusal} → firstVerdict store t seen ≡ Refuse why → performAt e t seen reading node store ≡ refuse why node store
+    unfolding performAt admitted
     acted-refused p = ap (λ (v : Verdict). admitted v node store (onSound e node store seen reading)) p
 
-    pub acted-taken : firstVerdict store t seen ≡ Take → acted e t seen reading node store ≡ onSound e node store seen reading
-    unfolding acted admitted
+    pub acted-taken : firstVerdict store t seen ≡ Take → performAt e t seen reading node store ≡ onSound e node store seen reading
+    unfolding performAt admitted
     acted-taken p = ap (λ (v : Verdict). admitted v node store (onSound e node store seen reading)) p
 
 -- ---- a Drop looks at no node
@@ -131,19 +131,19 @@ unfolding dropped
 dropped-node Fault node store r = refl
 dropped-node (Found e) node store r = refl
 
-pub drop-node : (r : ℕ) (t : Bool) (seen : Seen) (reading : Reading) (node : Node) (store : List ℕ) → acted (event.Drop r) t seen reading node store .node ≡ node
-unfolding acted admitted onSound
+pub drop-node : (r : ℕ) (t : Bool) (seen : Inspection) (reading : Reading) (node : Node) (store : List ℕ) → performAt (event.Drop r) t seen reading node store .node ≡ node
+unfolding performAt admitted onSound
 drop-node r t seen reading node store = go (firstVerdict store t seen)
   where
     go : (v : Verdict) → admitted v node store (onSound (event.Drop r) node store seen reading) .node ≡ node
     go (Refuse why) = refl
     go Take = dropped-node reading node store r
 
-pub dropping-is : (e : Event) → droppingOf e .drops ≡ true → e ≡ event.Drop (droppingOf e .number)
-unfolding droppingOf
-dropping-is (event.Write k tag) p = cc
-dropping-is (event.Retry k) p = cc
-dropping-is (event.Crash k) p = cc
-dropping-is (event.Start k) p = cc
-dropping-is (event.Drop r) p = refl
-dropping-is (event.Deliver r) p = cc
+pub drop-target-is : (e : Event) → dropTargetOf e .drops ≡ true → e ≡ event.Drop (dropTargetOf e .number)
+unfolding dropTargetOf
+drop-target-is (event.Write k tag) p = cc
+drop-target-is (event.Retry k) p = cc
+drop-target-is (event.Crash k) p = cc
+drop-target-is (event.Start k) p = cc
+drop-target-is (event.Drop r) p = refl
+drop-target-is (event.Deliver r) p = cc

@@ -26,9 +26,9 @@ use Rattle.protocol.specs.declared.Refusal.the-variants.{StoreLength, Unsound, 
 use Rattle.protocol.specs.declared.Step.{Step}
 use Rattle.protocol.specs.declared.Verdict.{Verdict}
 use Rattle.protocol.specs.declared.Verdict.the-variants.{Take, Refuse}
-use Rattle.event.specs.declared.Acted.{Acted}
-use Rattle.event.specs.declared.Dropping.{Dropping}
-use Rattle.event.specs.declared.Seen.{Seen}
+use Rattle.event.specs.declared.NodeResult.{NodeResult}
+use Rattle.event.specs.declared.DropTarget.{DropTarget}
+use Rattle.event.specs.declared.Inspection.{Inspection}
 
 -- ---- before the table is read
 
@@ -56,8 +56,8 @@ placeOf (event.Drop r) reading = addresseeOf reading
 placeOf (event.Deliver r) reading = addresseeOf reading
 
 -- what is seen of store and event, where this is read of its record
-unfoldable pub lookAt : Event → List ℕ → Reading → Seen
-lookAt e store reading =
+unfoldable pub inspectionOf : Event → List ℕ → Reading → Inspection
+inspectionOf e store reading =
     record {
       sound = survey store .sound;
       n = survey store .n;
@@ -65,17 +65,17 @@ lookAt e store reading =
       place = placeOf e reading;
     }
 
-abbrev pub noDrop : Dropping
+abbrev pub noDrop : DropTarget
 noDrop = record { drops = false; number = 0 }
 
 -- which record an event drops
-unfoldable pub droppingOf : Event → Dropping
-droppingOf (event.Write k tag) = noDrop
-droppingOf (event.Retry k) = noDrop
-droppingOf (event.Crash k) = noDrop
-droppingOf (event.Start k) = noDrop
-droppingOf (event.Drop r) = record { drops = true; number = r }
-droppingOf (event.Deliver r) = noDrop
+unfoldable pub dropTargetOf : Event → DropTarget
+dropTargetOf (event.Write k tag) = noDrop
+dropTargetOf (event.Retry k) = noDrop
+dropTargetOf (event.Crash k) = noDrop
+dropTargetOf (event.Start k) = noDrop
+dropTargetOf (event.Drop r) = record { drops = true; number = r }
+dropTargetOf (event.Deliver r) = noDrop
 
 -- ---- one node and the store
 
@@ -86,10 +86,10 @@ pub record Outcome : Type 0 where
   pub store : List ℕ
 
 -- the part of it that is handed back; the store is lent
-abbrev pub handedBack : Outcome → Acted
+abbrev pub handedBack : Outcome → NodeResult
 handedBack o = record { answer = o .answer; node = o .node }
 
-abbrev pub refusedWith : Refusal → Node → Acted
+abbrev pub refusedWith : Refusal → Node → NodeResult
 refusedWith why node = record { answer = answer.Refused why; node = node }
 
 abbrev pub refuse : Refusal → Node → List ℕ → Outcome
@@ -112,7 +112,7 @@ carriedOut node store free back step =
     (sentBy node store free step (outgoing (step .node) (step .sends) back))
 
 -- "4: node number not below n, where one is given"
-unfoldable pub atNode : Node → List ℕ → Seen → ℕ → Step → Outcome
+unfoldable pub atNode : Node → List ℕ → Inspection → ℕ → Step → Outcome
 atNode node store look k step =
     cond (ltb k (look .n)) (carriedOut node store (look .free) k step) (refuse NoNode node store)
 
@@ -128,7 +128,7 @@ delivered (Found e) node store free r =
     carriedOut node store free (e .sender) (deliverStep node e (rowsOf (recordOf store r)))
 
 -- an event on a sound table and store
-unfoldable pub onSound : Event → Node → List ℕ → Seen → Reading → Outcome
+unfoldable pub onSound : Event → Node → List ℕ → Inspection → Reading → Outcome
 onSound (event.Write k tag) node store look reading = atNode node store look k (writeStep node tag)
 onSound (event.Retry k) node store look reading = atNode node store look k (retryStep node)
 onSound (event.Crash k) node store look reading = atNode node store look k (crashStep node)
@@ -137,7 +137,7 @@ onSound (event.Drop r) node store look reading = dropped reading node store r
 onSound (event.Deliver r) node store look reading = delivered reading node store (look .free) r
 
 -- "2 as above; 3: store or table unsound"
-unfoldable pub firstVerdict : List ℕ → Bool → Seen → Verdict
+unfoldable pub firstVerdict : List ℕ → Bool → Inspection → Verdict
 firstVerdict store soundTable look =
     cond (rightLength store) (cond (look .sound && soundTable) Take (Refuse Unsound)) (Refuse StoreLength)
 
@@ -146,6 +146,6 @@ unfoldable pub admitted : Verdict → Node → List ℕ → Outcome → Outcome
 admitted (Refuse why) node store o = refuse why node store
 admitted Take node store o = o
 
-unfoldable pub acted : Event → Bool → Seen → Reading → Node → List ℕ → Outcome
-acted e soundTable look reading node store =
+unfoldable pub performAt : Event → Bool → Inspection → Reading → Node → List ℕ → Outcome
+performAt e soundTable look reading node store =
     admitted (firstVerdict store soundTable look) node store (onSound e node store look reading)

@@ -1,5 +1,5 @@
 // A decision carried out: refused where too few records are free, or what it sends goes into the store.
-use crate::Acted;
+use crate::NodeResult;
 use crate::refused;
 use outbox::count_sent;
 use protocol::Answer;
@@ -28,12 +28,12 @@ fn is_refused(answer: Answer) -> bool
 
 // The decision `step` of the node, where so many records are free; `back` is the sender of the message delivered.
 // A refused decision leaves everything as it was.
-pub fn carry_out(s: &mut [u8], node: Node, free: usize, back: usize, step: Step) -> Acted
+pub fn carry_out(s: &mut [u8], node: Node, free: usize, back: usize, step: Step) -> NodeResult
     ensures { λ r. ⌜ (r ≡ handedBack (carriedOut node (now (s .entry)) free back step)) × (now (s .exit) ≡ carriedOut node (now (s .entry)) free back step .store) ⌝ }
 {
     let answer = step.answer;
     if is_refused(answer) {
-        return Acted {
+        return NodeResult {
             answer: answer,
             node: node,
         };
@@ -44,7 +44,7 @@ pub fn carry_out(s: &mut [u8], node: Node, free: usize, back: usize, step: Step)
         return refused(Refusal::NoRoom, node);
     }
     outbox::send_each(s, next, sends, back);
-    Acted {
+    NodeResult {
         answer: answer,
         node: next,
     }
@@ -57,12 +57,12 @@ pub fn carry_decision(
     free: usize,
     sender: usize,
     decision: Decision,
-) -> Acted
+) -> NodeResult
     ensures { λ r. ⌜ (r ≡ handedBack (carriedOut node (now (s .entry)) free sender (stepBy node sender decision))) × (now (s .exit) ≡ carriedOut node (now (s .entry)) free sender (stepBy node sender decision) .store) ⌝ }
 {
     let answer = decision.answer;
     if is_refused(answer) {
-        return Acted {
+        return NodeResult {
             answer: answer,
             node: node,
         };
@@ -74,7 +74,7 @@ pub fn carry_decision(
         return refused(Refusal::NoRoom, node);
     }
     outbox::send_each(s, after, sends, sender);
-    Acted {
+    NodeResult {
         answer: answer,
         node: after,
     }

@@ -1,5 +1,5 @@
 // Drop of the message in a record. No node is read.
-use crate::Seen;
+use crate::Inspection;
 use crate::precheck::first_verdict;
 use message::Reading;
 use protocol::Answer;
@@ -8,7 +8,7 @@ use protocol::Verdict;
 ghost use mathlib.Core.Path.{_≡_};
 ghost use Rattle.protocol.specs.declared.Event.the-variants.{Drop};
 ghost use Rattle.protocol.specs.declared.Node.{Node};
-ghost use Rattle.event.specs.Act.{dropped, acted};
+ghost use Rattle.event.specs.Act.{dropped, performAt};
 
 // Drop of the message `reading` in record `r`: the answer and the store are the same whatever the node is.
 pub fn drop_message(s: &mut [u8], reading: Reading, r: u64) -> Answer
@@ -25,11 +25,11 @@ pub fn drop_message(s: &mut [u8], reading: Reading, r: u64) -> Answer
 pub fn drop_record(
     s: &mut [u8],
     sound_table: bool,
-    seen: Seen,
+    seen: Inspection,
     reading: Reading,
     number: u64,
 ) -> Answer
-    ensures { λ a. ⌜ ((node : Node) → (a ≡ acted (Drop number) «sound_table» seen reading node (now (s .entry)) .answer) × (now (s .exit) ≡ acted (Drop number) «sound_table» seen reading node (now (s .entry)) .store)) ⌝ }
+    ensures { λ a. ⌜ ((node : Node) → (a ≡ performAt (Drop number) «sound_table» seen reading node (now (s .entry)) .answer) × (now (s .exit) ≡ performAt (Drop number) «sound_table» seen reading node (now (s .entry)) .store)) ⌝ }
 {
     match first_verdict(s, sound_table, seen) {
         Verdict::Refuse(why) => Answer::Refused(why),

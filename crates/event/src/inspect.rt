@@ -1,10 +1,10 @@
 // What is found in store and event before the table is read.
-use crate::Dropping;
-use crate::Seen;
+use crate::DropTarget;
+use crate::Inspection;
 use message::Reading;
 use protocol::Event;
 ghost use mathlib.Core.Path.{_≡_};
-ghost use Rattle.event.specs.Act.{readingOf, addresseeOf, placeOf, noDrop, droppingOf, lookAt};
+ghost use Rattle.event.specs.Act.{readingOf, addresseeOf, placeOf, noDrop, dropTargetOf, inspectionOf};
 
 // The addressee of a message; 0 where there is none.
 fn addressee(reading: Reading) -> usize
@@ -31,25 +31,25 @@ fn place(event: Event, reading: Reading) -> usize
 }
 
 // It is not a Drop.
-fn no_drop() -> Dropping
+fn no_drop() -> DropTarget
     ensures { λ r. ⌜ r ≡ noDrop ⌝ }
 {
-    Dropping {
+    DropTarget {
         drops: false,
         number: 0,
     }
 }
 
 // Which record the event drops.
-pub fn dropping(event: Event) -> Dropping
-    ensures { λ r. ⌜ r ≡ droppingOf event ⌝ }
+pub fn drop_target(event: Event) -> DropTarget
+    ensures { λ r. ⌜ r ≡ dropTargetOf event ⌝ }
 {
     match event {
         Event::Write { node: _, tag: _ } => no_drop(),
         Event::Retry { node: _ } => no_drop(),
         Event::Crash { node: _ } => no_drop(),
         Event::Start { node: _ } => no_drop(),
-        Event::Drop { record } => Dropping {
+        Event::Drop { record } => DropTarget {
             drops: true,
             number: record,
         },
@@ -72,12 +72,12 @@ pub fn read(s: &[u8], event: Event) -> Reading
 }
 
 // What is seen of store and event, where `reading` is the message in the event's record.
-pub fn look(s: &[u8], event: Event, reading: Reading) -> Seen
-    ensures { λ r. ⌜ r ≡ lookAt event (now (s .entry)) reading ⌝ }
+pub fn inspect(s: &[u8], event: Event, reading: Reading) -> Inspection
+    ensures { λ r. ⌜ r ≡ inspectionOf event (now (s .entry)) reading ⌝ }
 {
-    let survey = store_check::of(s);
+    let survey = store_check::check_store(s);
     let whose = place(event, reading);
-    Seen {
+    Inspection {
         sound: survey.sound,
         n: survey.n,
         free: survey.free,

@@ -16,7 +16,7 @@ ghost use mathlib.Core.Path.{_≡_};
 ghost use Rattle.event.specs.Act.{refusedWith};
 
 // What is seen of store and event before the table is read.
-pub struct Seen {
+pub struct Inspection {
     // Whether the store is sound; of one that is not, the other numbers are 0.
     pub sound: bool,
     // The group's size.
@@ -28,23 +28,23 @@ pub struct Seen {
 }
 
 // Which record an event drops.
-pub struct Dropping {
+pub struct DropTarget {
     // Whether it is a Drop; of one that is not, the number is 0.
     pub drops: bool,
     pub number: u64,
 }
 
 // The answer, and the node afterwards.
-pub struct Acted {
+pub struct NodeResult {
     pub answer: Answer,
     pub node: Node,
 }
 
 // A refusal: the node as it was.
-pub fn refused(why: Refusal, node: Node) -> Acted
+pub fn refused(why: Refusal, node: Node) -> NodeResult
     ensures { λ r. ⌜ r ≡ refusedWith why node ⌝ }
 {
-    Acted {
+    NodeResult {
         answer: Answer::Refused(why),
         node: node,
     }

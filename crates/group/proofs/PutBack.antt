@@ -33,11 +33,11 @@ use Rattle.protocol.specs.declared.Refusal.{Refusal}
 use Rattle.protocol.specs.declared.Refusal.the-variants.{StoreLength, Unsound, NoNode, NoRoom, NoMessage}
 use Rattle.protocol.specs.declared.Step.{Step}
 use Rattle.event.specs.Act as one
-use Rattle.event.specs.Act.{Outcome, readingOf, addresseeOf, placeOf, lookAt, droppingOf, handedBack}
-use Rattle.event.specs.declared.Acted.{Acted}
-use Rattle.event.specs.declared.Dropping.{Dropping}
-use Rattle.event.specs.declared.Seen.{Seen}
-use Rattle.event.proofs.Laws.{first-table, first-taken, acted-refused, acted-taken, drop-node, dropping-is}
+use Rattle.event.specs.Act.{Outcome, readingOf, addresseeOf, placeOf, inspectionOf, dropTargetOf, handedBack}
+use Rattle.event.specs.declared.NodeResult.{NodeResult}
+use Rattle.event.specs.declared.DropTarget.{DropTarget}
+use Rattle.event.specs.declared.Inspection.{Inspection}
+use Rattle.event.proofs.Laws.{first-table, first-taken, acted-refused, acted-taken, drop-node, drop-target-is}
 use Rattle.table.proofs.Given.{Gives}
 
 -- the node afterwards stands at its place; where the table has none nothing is put
@@ -45,16 +45,16 @@ abbrev putBack : List Node → ℕ → Outcome → Result
 putBack table k o = record { answer = o .answer; table = set table k (o .node); store = o .store }
 
 -- the node at its place is read, the event is carried out on it and the store, and the node is put back
-unfoldable atPlace : Event → Bool → Seen → Reading → List Node → List ℕ → Result
-atPlace e sound seen reading table store = putBack table (seen .place) (one.acted e sound seen reading (nodeAt table (seen .place)) store)
+unfoldable atPlace : Event → Bool → Inspection → Reading → List Node → List ℕ → Result
+atPlace e sound seen reading table store = putBack table (seen .place) (one.performAt e sound seen reading (nodeAt table (seen .place)) store)
 
 -- what `drop_record` says of a record: its answer and the store, whatever the node is
-abbrev pub Drops : ℕ → Bool → Seen → Reading → List ℕ → Answer → List ℕ → Type 0
-Drops number sound seen reading store r after = (node : Node) → (r ≡ one.acted (event.Drop number) sound seen reading node store .answer) × (after ≡ one.acted (event.Drop number) sound seen reading node store .store)
+abbrev pub Drops : ℕ → Bool → Inspection → Reading → List ℕ → Answer → List ℕ → Type 0
+Drops number sound seen reading store r after = (node : Node) → (r ≡ one.performAt (event.Drop number) sound seen reading node store .answer) × (after ≡ one.performAt (event.Drop number) sound seen reading node store .store)
 
 -- what `act` says of a node: the answer and the node that it hands back, and the store
-abbrev pub Acts : Event → Bool → Seen → Reading → Node → List ℕ → Acted → List ℕ → Type 0
-Acts e sound seen reading node store r after = (r ≡ handedBack (one.acted e sound seen reading node store)) × (after ≡ one.acted e sound seen reading node store .store)
+abbrev pub Acts : Event → Bool → Inspection → Reading → Node → List ℕ → NodeResult → List ℕ → Type 0
+Acts e sound seen reading node store r after = (r ≡ handedBack (one.performAt e sound seen reading node store)) × (after ≡ one.performAt e sound seen reading node store .store)
 
 -- whose event it is, by what is read of its record
 abbrev placeIn : Event → List ℕ → ℕ
@@ -95,7 +95,7 @@ module _ (table : List Node) (store : List ℕ) (k : ℕ) where
         (sent-at step (outgoing (step .node) (step .sends) back) i))
 
     -- what is seen of a sound store
-    abbrev sound-seen : Seen
+    abbrev sound-seen : Inspection
     sound-seen = record { sound = true; n = groupSize (recordsOf store); free = freeCount (recordsOf store); place = k }
 
     step-at : (decide : Node → Step) → putBack table k (one.atNode (nodeAt table k) store sound-seen k (decide (nodeAt table k))) ≡ whole.atNode decide k table store (recordsOf store)
@@ -143,31 +143,31 @@ module _ (e : Event) (table : List Node) (store : List ℕ) where
 
   -- as the code does it
   abbrev byNode : Result
-  byNode = atPlace e (soundTable (lookAt e store reading .n) table) (lookAt e store reading) reading table store
+  byNode = atPlace e (soundTable (inspectionOf e store reading .n) table) (inspectionOf e store reading) reading table store
 
   -- a store that is sound, with a table of any kind
-  seen-sound : rightLength store ≡ true → soundRecords (recordsOf store) ≡ true → lookAt e store reading ≡ record { sound = true; n = groupSize (recordsOf store); free = freeCount (recordsOf store); place = place }
-  unfolding lookAt survey surveyOf
+  seen-sound : rightLength store ≡ true → soundRecords (recordsOf store) ≡ true → inspectionOf e store reading ≡ record { sound = true; n = groupSize (recordsOf store); free = freeCount (recordsOf store); place = place }
+  unfolding inspectionOf survey surveyOf
   seen-sound p q = rw (p, q)
 
-  seen-unsound : rightLength store ≡ true → soundRecords (recordsOf store) ≡ false → lookAt e store reading ≡ record { sound = false; n = 0; free = 0; place = place }
-  unfolding lookAt survey surveyOf
+  seen-unsound : rightLength store ≡ true → soundRecords (recordsOf store) ≡ false → inspectionOf e store reading ≡ record { sound = false; n = 0; free = 0; place = place }
+  unfolding inspectionOf survey surveyOf
   seen-unsound p q = rw (p, q)
 
   -- what the code does, from what it sees
-  abbrev withSeen : Seen → Result
+  abbrev withSeen : Inspection → Result
   withSeen seen = atPlace e (soundTable (seen .n) table) seen reading table store
 
   performed-wrong : rightLength store ≡ false → byNode ≡ whole.perform e table store
-  unfolding atPlace one.acted one.admitted one.firstVerdict whole.perform lookAt
+  unfolding atPlace one.performAt one.admitted one.firstVerdict whole.perform inspectionOf
   performed-wrong p = rw p (refused-at table store place StoreLength)
 
   performed-unsound : rightLength store ≡ true → soundRecords (recordsOf store) ≡ false → byNode ≡ whole.perform e table store
-  unfolding atPlace one.acted one.admitted one.firstVerdict whole.perform whole.onRecords
+  unfolding atPlace one.performAt one.admitted one.firstVerdict whole.perform whole.onRecords
   performed-unsound p q = ap withSeen (seen-unsound p q) ∙ rw (p, q) (refused-at table store place Unsound)
 
   -- on a sound store the table decides
-  judged : (t : Bool) (seen : Seen) → rightLength store ≡ true → seen .sound ≡ true → one.acted e t seen reading node store ≡ cond t (one.onSound e node store seen reading) (one.refuse Unsound node store)
+  judged : (t : Bool) (seen : Inspection) → rightLength store ≡ true → seen .sound ≡ true → one.performAt e t seen reading node store ≡ cond t (one.onSound e node store seen reading) (one.refuse Unsound node store)
   judged true seen p q = acted-taken store true seen reading e node (first-taken store true seen p q refl)
   judged false seen p q = acted-refused store false seen reading e node (first-table store false seen p q refl)
 
@@ -188,34 +188,34 @@ module _ (e : Event) (table : List Node) (store : List ℕ) where
   performed = performed-at (rightLength store) (soundRecords (recordsOf store)) refl refl
 
   -- the calls of `group::perform` one after the other, each with what it ensures
-  module _ (m : Reading) (seen : Seen) (sound : Bool) (eᵣ : m ≡ reading) (e₀ : seen ≡ lookAt e store m) (e₁ : sound ≡ soundTable (seen .n) table) where
+  module _ (m : Reading) (seen : Inspection) (sound : Bool) (eᵣ : m ≡ reading) (e₀ : seen ≡ inspectionOf e store m) (e₁ : sound ≡ soundTable (seen .n) table) where
     performed-seen : atPlace e sound seen m table store ≡ whole.perform e table store
     performed-seen =
-        let l : seen ≡ lookAt e store reading = e₀ ∙ ap (lookAt e store) eᵣ in
-        let t : sound ≡ soundTable (lookAt e store reading .n) table = e₁ ∙ ap (λ (v : Seen). soundTable (v .n) table) l in
+        let l : seen ≡ inspectionOf e store reading = e₀ ∙ ap (inspectionOf e store) eᵣ in
+        let t : sound ≡ soundTable (inspectionOf e store reading .n) table = e₁ ∙ ap (λ (v : Inspection). soundTable (v .n) table) l in
         (λ i. atPlace e (t i) (l i) (eᵣ i) table store) ∙ performed
 
     -- a Drop, from the store alone: the node that it would put back is the one that stands there
-    pub dropped-gives : (dropping : Dropping) (r : Answer) (after : List ℕ) → dropping ≡ droppingOf e → dropping .drops ≡ true → Drops (dropping .number) sound seen m store r after
+    pub dropped-gives : (dropping : DropTarget) (r : Answer) (after : List ℕ) → dropping ≡ dropTargetOf e → dropping .drops ≡ true → Drops (dropping .number) sound seen m store r after
         → Gives (whole.perform e table store) r table after
     unfolding atPlace
     dropped-gives dropping r after p drops d =
         let k = seen .place in
-        let is : event.Drop (dropping .number) ≡ e = ap (λ (v : Dropping). event.Drop (v .number)) p ∙ sym (dropping-is e (sym (ap (λ (v : Dropping). v .drops) p) ∙ drops)) in
+        let is : event.Drop (dropping .number) ≡ e = ap (λ (v : DropTarget). event.Drop (v .number)) p ∙ sym (drop-target-is e (sym (ap (λ (v : DropTarget). v .drops) p) ∙ drops)) in
         let all : atPlace (event.Drop (dropping .number)) sound seen m table store ≡ whole.perform e table store = ap (λ (v : Event). atPlace v sound seen m table store) is ∙ performed-seen in
         let same : table ≡ atPlace (event.Drop (dropping .number)) sound seen m table store .table =
         sym (ap (set table k) (drop-node (dropping .number) sound seen m (nodeAt table k) store) ∙ same-node table k) in
         (d (nodeAt table k) .0 ∙ ap (λ (o : Result). o .answer) all, (same ∙ ap (λ (o : Result). o .table) all, d (nodeAt table k) .1 ∙ ap (λ (o : Result). o .store) all))
 
     -- any other event, at its place
-    pub acted-gives : (v : Node) (r : Acted) (l : List Node) (after : List ℕ) → v ≡ getD table (seen .place) noNode → Acts e sound seen m v store r after → l ≡ set table (seen .place) (r .node)
+    pub acted-gives : (v : Node) (r : NodeResult) (l : List Node) (after : List ℕ) → v ≡ getD table (seen .place) noNode → Acts e sound seen m v store r after → l ≡ set table (seen .place) (r .node)
         → Gives (whole.perform e table store) (r .answer) l after
     unfolding atPlace nodeAt
     acted-gives v r l after e₂ e₃ e₄ =
-        let out : r ≡ handedBack (one.acted e sound seen m (nodeAt table (seen .place)) store) = e₃ .0 ∙ ap (λ (d : Node). handedBack (one.acted e sound seen m d store)) e₂ in (
-          ap (λ (o : Acted). o .answer) out ∙ ap (λ (o : Result). o .answer) performed-seen,
+        let out : r ≡ handedBack (one.performAt e sound seen m (nodeAt table (seen .place)) store) = e₃ .0 ∙ ap (λ (d : Node). handedBack (one.performAt e sound seen m d store)) e₂ in (
+          ap (λ (o : NodeResult). o .answer) out ∙ ap (λ (o : Result). o .answer) performed-seen,
           (
-            e₄ ∙ ap (λ (o : Acted). set table (seen .place) (o .node)) out ∙ ap (λ (o : Result). o .table) performed-seen,
-            e₃ .1 ∙ ap (λ (d : Node). one.acted e sound seen m d store .store) e₂ ∙ ap (λ (o : Result). o .store) performed-seen,
+            e₄ ∙ ap (λ (o : NodeResult). set table (seen .place) (o .node)) out ∙ ap (λ (o : Result). o .table) performed-seen,
+            e₃ .1 ∙ ap (λ (d : Node). one.performAt e sound seen m d store .store) e₂ ∙ ap (λ (o : Result). o .store) performed-seen,
           ),
         )

@@ -13,14 +13,14 @@ pub fn perform(table: &mut [Node], store: &mut [u8], event: Event) -> Answer
     ensures { λ r. ⌜ (r ≡ operation.perform event (now (table .entry)) (now (store .entry)) .answer) × ((now (table .exit) ≡ operation.perform event (now (table .entry)) (now (store .entry)) .table) × (now (store .exit) ≡ operation.perform event (now (table .entry)) (now (store .entry)) .store)) ⌝ }
 {
     let reading = act::read(store, event);
-    let seen = act::look(store, event, reading);
+    let seen = act::inspect(store, event, reading);
     let sound = table::check_table(table, seen.n);
-    let dropping = act::dropping(event);
-    if dropping.drops {
-        return act::drop_record(store, sound, seen, reading, dropping.number);
+    let target = act::drop_target(event);
+    if target.drops {
+        return act::drop_record(store, sound, seen, reading, target.number);
     }
     let node = table::node_at(table, seen.place);
-    let acted = act::act(store, node, sound, seen, reading, event);
-    table::replace_node(table, seen.place, acted.node);
-    acted.answer
+    let result = act::act(store, node, sound, seen, reading, event);
+    table::replace_node(table, seen.place, result.node);
+    result.answer
 }

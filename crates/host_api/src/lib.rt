@@ -22,7 +22,7 @@ pub extern "C" fn yagvost_run_script(script: &[u8], out: &mut [u8]) -> usize
 pub extern "C" fn yagvost_is_sound(store: &[u8], n: u64) -> bool
     ensures { λ r. ⌜ r ≡ soundFor (now (store .entry)) n ⌝ }
 {
-    let found = store_check::of(store);
+    let found = store_check::check_store(store);
     if !found.sound {
         return false;
     }

@@ -19,12 +19,12 @@ use Rattle.record.specs.Layout.{recordSize}
 use Rattle.store.specs.Records.{recordCount}
 use Rattle.drill_state.specs.Turn.{lineDone}
 use Rattle.drill_state.specs.Drill.{lastOutput, outputFrom, drillOutput}
-use Rattle.drill_state.specs.Feeding.{atStart, pendingOutput, progressOutput, lineFeeds, Taken}
+use Rattle.drill_state.specs.Feeding.{atStart, bufferedOutput, progressOutput, lineFeeds, Taken}
 use Rattle.drill_state.proofs.FeedingLaws.{program-alike}
 use Rattle.drill_state.specs.declared.Drill.{Drill}
 use Rattle.drill_state.specs.declared.Progress.{Progress}
 use Rattle.script.specs.Line.{lineOf}
-use Rattle.script.specs.Pending.{noneYet}
+use Rattle.script.specs.LineBuffer.{noneYet}
 use Rattle.run_script.specs.Script.{notAll, ScriptRun}
 
 -- ---- how long the output may be
@@ -125,7 +125,7 @@ module _ (script store out : List ℕ) (start last : Progress) (zeros : List ℕ
 
   -- the script was taken whole: what is left to print is the unended last line
   whole : length script ≤ next → drillOutput script ≡ take at out ++ lastOutput (last .count) (last .pending .len)
-  unfolding progressOutput pendingOutput
+  unfolding progressOutput bufferedOutput
   whole h = all-output ∙ ap (λ (l : List ℕ). take at out ++ progressOutput last store l) (drop-of-length-le script h)
 
   whole-ended : length script ≤ next → last .pending .len ≡ 0 → drillOutput script ≡ take at out

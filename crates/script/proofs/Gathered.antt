@@ -11,8 +11,8 @@ use Rattle.item.specs.Tests.{by-cond}
 use Rattle.script.specs.Line.{lineOf}
 use Rattle.script.proofs.Reading.{line-long}
 use Rattle.script.specs.declared.Line.the-variants.{Unread}
-use Rattle.script.specs.Pending.{mostBytes, noneYet, pushed, pushedAll, pendingLine}
-use Rattle.script.specs.declared.buffer.Pending.{Pending}
+use Rattle.script.specs.LineBuffer.{mostBytes, noneYet, pushed, pushedAll, bufferedLine}
+use Rattle.script.specs.declared.buffer.LineBuffer.{LineBuffer}
 
 -- nothing is lost where only the first 64 bytes are kept
 pub line-kept : (bs : List ℕ) → lineOf (take mostBytes bs) ≡ lineOf bs
@@ -23,10 +23,10 @@ line-kept bs =
     line-long (take mostBytes bs) (rw (length-take-le mostBytes bs (omega arith)) (omega arith)) ∙ sym (line-long bs (omega arith)))
 
 -- what a pending line holds once the bytes have come: the first 64 of them
-Holds : Pending → List ℕ → Type 0
+Holds : LineBuffer → List ℕ → Type 0
 Holds p bs = (length (p .bytes) ≡ mostBytes) × (p .len ≡ length (take mostBytes bs)) × (take (p .len) (p .bytes) ≡ take mostBytes bs)
 
-holds-more : (p : Pending) (bs : List ℕ) (b : ℕ) → Holds p bs → Holds (pushed p b) (bs ++ (b ∷ []))
+holds-more : (p : LineBuffer) (bs : List ℕ) (b : ℕ) → Holds p bs → Holds (pushed p b) (bs ++ (b ∷ []))
 unfolding Holds pushed
 holds-more p bs b h =
     by-cond (λ q. Holds q (bs ++ (b ∷ []))) (ltb (p .len) mostBytes) (record { bytes = set (p .bytes) (p .len) b; len = suc (p .len) }) p
@@ -47,14 +47,14 @@ holds-more p bs b h =
     let t : take mostBytes (bs ++ (b ∷ [])) ≡ take mostBytes bs = take-append-le mostBytes bs (b ∷ []) (omega (arith, h .1)) in
     (h .0, rw t (h .1), rw t (h .2)))
 
-holds-all : (p : Pending) (bs : List ℕ) (cs : List ℕ) → Holds p bs → Holds (pushedAll p cs) (bs ++ cs)
+holds-all : (p : LineBuffer) (bs : List ℕ) (cs : List ℕ) → Holds p bs → Holds (pushedAll p cs) (bs ++ cs)
 unfolding pushedAll
 holds-all p bs [] h = rw append-nil h
 holds-all p bs (c ∷ cs) h = rw (append-snoc bs c cs) at (holds-all (pushed p c) (bs ++ (c ∷ [])) cs (holds-more p bs c h))
 
 -- pushing all bytes of a line and reading gives what the line asks for, however long it is
-pub gathered : (bs : List ℕ) → pendingLine (pushedAll noneYet bs) ≡ lineOf bs
-unfolding pendingLine Holds noneYet
+pub gathered : (bs : List ℕ) → bufferedLine (pushedAll noneYet bs) ≡ lineOf bs
+unfolding bufferedLine Holds noneYet
 gathered bs = rw (holds-all noneYet [] bs (refl, refl, refl) .2) (line-kept bs)
 
 -- and as many are kept as came, up to 64
@@ -63,6 +63,6 @@ unfolding Holds noneYet
 gathered-length bs = holds-all noneYet [] bs (refl, refl, refl) .1
 
 -- more bytes than can be kept: unread
-pub pending-full : (p : Pending) → length (p .bytes) ≡ mostBytes → mostBytes < p .len → pendingLine p ≡ Unread
-unfolding pendingLine
-pending-full p e h = rw (take-all (p .len) (p .bytes) (omega arith)) (line-long (p .bytes) (omega arith))
+pub buffer-full : (p : LineBuffer) → length (p .bytes) ≡ mostBytes → mostBytes < p .len → bufferedLine p ≡ Unread
+unfolding bufferedLine
+buffer-full p e h = rw (take-all (p .len) (p .bytes) (omega arith)) (line-long (p .bytes) (omega arith))

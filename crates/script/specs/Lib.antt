@@ -4,4 +4,4 @@ pub mod Digits
 pub mod Place
 pub mod Line
 pub mod Operated
-pub mod Pending
+pub mod LineBuffer

@@ -2,8 +2,8 @@
 mod buffer;
 mod decimal;
 
-pub use buffer::Pending;
-pub use buffer::read_pending;
+pub use buffer::LineBuffer;
+pub use buffer::read_buffer;
 use decimal::Number;
 use decimal::number_in;
 pub use decimal::put_number;

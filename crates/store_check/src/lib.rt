@@ -71,7 +71,7 @@ fn all_passed(passed: &[bool]) -> bool
 }
 
 // Whether these bytes are a sound store, and if so the size of its group and how many records are free.
-pub fn of(s: &[u8]) -> Survey
+pub fn check_store(s: &[u8]) -> Survey
     ensures { λ r. ⌜ r ≡ survey (now (s .entry)) ⌝ }
 {
     let unsound = Survey {

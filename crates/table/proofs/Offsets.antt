@@ -1,14 +1,14 @@
 -- Where the fields that a walk reads stand in the memory of a struct, said here once for all walks.
 use Prim.Native.Nat.{ℕ}
 
--- of `act::Seen`
+-- of `act::Inspection`
 abbrev pub nAt : ℕ
 nAt = 8
 
 abbrev pub placeAt : ℕ
 placeAt = 24
 
--- of `act::Dropping`
+-- of `act::DropTarget`
 abbrev pub numberAt : ℕ
 numberAt = 8
 

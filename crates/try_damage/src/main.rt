@@ -53,7 +53,7 @@ fn fill(s: &mut [u8]) {
 // The line of one store.
 fn print(s: &[u8], name: &[u8]) {
     io::write_all(STDOUT_FILENO, name);
-    let found = store_check::of(s);
+    let found = store_check::check_store(s);
     if !found.sound {
         io::write_all(STDOUT_FILENO, b": unsound\n");
         return;

@@ -49,10 +49,10 @@ use Rattle.protocol.specs.declared.Event.{Event}
 use Rattle.protocol.specs.declared.Answer.{Answer}
 use Rattle.operations.specs.Operation as operation
 use Rattle.protocol.specs.Table.{noNode, soundTable}
-use Rattle.event.specs.declared.Acted.{Acted}
-use Rattle.event.specs.declared.Dropping.{Dropping}
-use Rattle.event.specs.declared.Seen.{Seen}
-use Rattle.event.specs.Act.{readingOf, lookAt, droppingOf}
+use Rattle.event.specs.declared.NodeResult.{NodeResult}
+use Rattle.event.specs.declared.DropTarget.{DropTarget}
+use Rattle.event.specs.declared.Inspection.{Inspection}
+use Rattle.event.specs.Act.{readingOf, inspectionOf, dropTargetOf}
 use Rattle.table.proofs.Offsets.{nAt, placeAt, numberAt, afterAnswer}
 use Rattle.table.proofs.Shared.{LentShared, lends-shared, shared-back}
 use Rattle.table.proofs.Walk.{env-of, holds}
@@ -66,28 +66,28 @@ use Rattle.protocol.proofs.Answer as An
 use Rattle.protocol.proofs.Answer.Laws as An′
 use Rattle.protocol.proofs.Node as T
 use Rattle.protocol.proofs.Node.Laws as T′
-use Rattle.event.proofs.Seen as S
-use Rattle.event.proofs.Seen.Laws as S′
-use Rattle.event.proofs.Dropping as D
-use Rattle.event.proofs.Dropping.Laws as D′
-use Rattle.event.proofs.Acted as O
-use Rattle.event.proofs.Acted.Laws as O′
+use Rattle.event.proofs.Inspection as S
+use Rattle.event.proofs.Inspection.Laws as S′
+use Rattle.event.proofs.DropTarget as D
+use Rattle.event.proofs.DropTarget.Laws as D′
+use Rattle.event.proofs.NodeResult as O
+use Rattle.event.proofs.NodeResult.Laws as O′
 use Rattle.event.proofs.inspect.read as reads
 use Rattle.event.proofs.inspect.read.Symbol as read-def
 use Rattle.event.proofs.inspect.read.Symbol.{name as #read}
 use Rattle.event.proofs.inspect.read.Met as read-thm
-use Rattle.event.proofs.inspect.look as looks
-use Rattle.event.proofs.inspect.look.Symbol as look-def
-use Rattle.event.proofs.inspect.look.Symbol.{name as #look}
-use Rattle.event.proofs.inspect.look.Met as look-thm
+use Rattle.event.proofs.inspect.inspect as looks
+use Rattle.event.proofs.inspect.inspect.Symbol as look-def
+use Rattle.event.proofs.inspect.inspect.Symbol.{name as #look}
+use Rattle.event.proofs.inspect.inspect.Met as look-thm
 use Rattle.table.proofs.check_table as checks
 use Rattle.table.proofs.check_table.Symbol as check-def
 use Rattle.table.proofs.check_table.Symbol.{name as #check}
 use Rattle.table.proofs.check_table.Met as check-thm
-use Rattle.event.proofs.inspect.dropping as drops
-use Rattle.event.proofs.inspect.dropping.Symbol as drops-def
-use Rattle.event.proofs.inspect.dropping.Symbol.{name as #drops}
-use Rattle.event.proofs.inspect.dropping.Met as drops-thm
+use Rattle.event.proofs.inspect.drop_target as drops
+use Rattle.event.proofs.inspect.drop_target.Symbol as drops-def
+use Rattle.event.proofs.inspect.drop_target.Symbol.{name as #drops}
+use Rattle.event.proofs.inspect.drop_target.Met as drops-thm
 use Rattle.event.proofs.drop_record as record-drop
 use Rattle.event.proofs.drop_record.Symbol as record-drop-def
 use Rattle.event.proofs.drop_record.Symbol.{name as #record-drop}
@@ -114,17 +114,17 @@ abbrev stayed : Stays (perform.ended .signature .params) (perform.ended .kept)
 stayed = (gave-slice (0 ∷ []) tt (plain (λ _. T.the-row)), (gave-slice (1 ∷ []) tt (plain (λ _. u8)), (stay-none (λ _. K.the-row) yes, tt)))
 
 -- what is known of the fields of what a callee gives
-n-fits : (r : Seen) (vs : List Val) → Is S.the-row r vs → r .n < 2 ^ 64
+n-fits : (r : Inspection) (vs : List Val) → Is S.the-row r vs → r .n < 2 ^ 64
 n-fits r vs is = LL.owed S.the-type S′.the-laws r vs is .1 .0 .1
 
-place-fits : (r : Seen) (vs : List Val) → Is S.the-row r vs → r .place < 2 ^ 64
+place-fits : (r : Inspection) (vs : List Val) → Is S.the-row r vs → r .place < 2 ^ 64
 place-fits r vs is = LL.owed S.the-type S′.the-laws r vs is .1 .1 .1 .0 .1
 
-number-fits : (r : Dropping) (vs : List Val) → Is D.the-row r vs → r .number < 2 ^ 64
+number-fits : (r : DropTarget) (vs : List Val) → Is D.the-row r vs → r .number < 2 ^ 64
 number-fits r vs is = LL.owed D.the-type D′.the-laws r vs is .1 .0 .1
 
 -- their machine values
-abbrev seen-val : Seen → Val
+abbrev seen-val : Inspection → Val
 seen-val v = LL.val S.the-type S′.the-laws v
 
 abbrev node-val : Node → Val
@@ -133,13 +133,13 @@ node-val v = LL.val T.the-type T′.the-laws v
 abbrev av : Answer → Val
 av r = EL.val An.the-type An′.the-laws r
 
-seen-is : (r : Seen) (vs : List Val) → Is S.the-row r vs → Is S.the-row r (seen-val r ∷ [])
+seen-is : (r : Inspection) (vs : List Val) → Is S.the-row r vs → Is S.the-row r (seen-val r ∷ [])
 seen-is r vs is = subst (Is S.the-row r) (LL.tells S.the-type S′.the-laws r vs is) is
 
-node-is : (r : Acted) (vs : List Val) → Is O.the-row r vs → Is T.the-row (r .node) (node-val (r .node) ∷ [])
+node-is : (r : NodeResult) (vs : List Val) → Is O.the-row r vs → Is T.the-row (r .node) (node-val (r .node) ∷ [])
 node-is r vs is = LL.owed O.the-type O′.the-laws r vs is .1 .0
 
-answer-is : (r : Acted) (vs : List Val) → Is O.the-row r vs → Is An.the-row (r .answer) (av (r .answer) ∷ [])
+answer-is : (r : NodeResult) (vs : List Val) → Is O.the-row r vs → Is An.the-row (r .answer) (av (r .answer) ∷ [])
 answer-is r vs is = LL.owed O.the-type O′.the-laws r vs is .0
 
 module _ {M : Type 1} (𝓤 : URA M) (H : Heap 𝓤) (A : Atoms 𝓤) (mem : Memory → SProp 𝓤) (run : Routine → Fun 𝓤) where
@@ -172,14 +172,14 @@ module _ {M : Type 1} (𝓤 : URA M) (H : Heap 𝓤) (A : Atoms 𝓤) (mem : Mem
   read-of : (κ : Lft) (x : RefT (List ℕ)) (e : Event) (r : Reading) → ent 𝓤 (ensured 𝓤 H A reads.ended (reads.clauses 𝓤 H A mem run) (κ, tt) (x, (e, tt)) tt r) (fact 𝓤 (r ≡ readingOf e (x .now)))
   read-of κ x e r = exE 𝓤 _ (λ ws. snd∗ 𝓤 (sem 𝓤 H A (lasts reads.ended (κ, tt) (x, (e, tt)) ws)) (fact 𝓤 (r ≡ readingOf e (x .now))))
 
-  look-of : (κ : Lft) (x : RefT (List ℕ)) (e : Event) (m : Reading) (r : Seen) → ent 𝓤 (ensured 𝓤 H A looks.ended (looks.clauses 𝓤 H A mem run) (κ, tt) (x, (e, (m, tt))) tt r) (fact 𝓤 (r ≡ lookAt e (x .now) m))
-  look-of κ x e m r = exE 𝓤 _ (λ ws. snd∗ 𝓤 (sem 𝓤 H A (lasts looks.ended (κ, tt) (x, (e, (m, tt))) ws)) (fact 𝓤 (r ≡ lookAt e (x .now) m)))
+  look-of : (κ : Lft) (x : RefT (List ℕ)) (e : Event) (m : Reading) (r : Inspection) → ent 𝓤 (ensured 𝓤 H A looks.ended (looks.clauses 𝓤 H A mem run) (κ, tt) (x, (e, (m, tt))) tt r) (fact 𝓤 (r ≡ inspectionOf e (x .now) m))
+  look-of κ x e m r = exE 𝓤 _ (λ ws. snd∗ 𝓤 (sem 𝓤 H A (lasts looks.ended (κ, tt) (x, (e, (m, tt))) ws)) (fact 𝓤 (r ≡ inspectionOf e (x .now) m)))
 
   check-of : (κ : Lft) (x : RefT (List Node)) (n : ℕ) (r : Bool) → ent 𝓤 (ensured 𝓤 H A checks.ended (checks.clauses 𝓤 H A mem run) (κ, tt) (x, (n, tt)) tt r) (fact 𝓤 (r ≡ soundTable n (x .now)))
   check-of κ x n r = exE 𝓤 _ (λ ws. snd∗ 𝓤 (sem 𝓤 H A (lasts checks.ended (κ, tt) (x, (n, tt)) ws)) (fact 𝓤 (r ≡ soundTable n (x .now))))
 
-  dropping-of : (e : Event) (r : Dropping) → ent 𝓤 (ensured 𝓤 H A drops.ended (drops.clauses 𝓤 H A mem run) tt (e, tt) tt r) (fact 𝓤 (r ≡ droppingOf e))
-  dropping-of e r = exE 𝓤 _ (λ ws. snd∗ 𝓤 (sem 𝓤 H A (lasts drops.ended tt (e, tt) ws)) (fact 𝓤 (r ≡ droppingOf e)))
+  dropping-of : (e : Event) (r : DropTarget) → ent 𝓤 (ensured 𝓤 H A drops.ended (drops.clauses 𝓤 H A mem run) tt (e, tt) tt r) (fact 𝓤 (r ≡ dropTargetOf e))
+  dropping-of e r = exE 𝓤 _ (λ ws. snd∗ 𝓤 (sem 𝓤 H A (lasts drops.ended tt (e, tt) ws)) (fact 𝓤 (r ≡ dropTargetOf e)))
 
   at-of : (κ : Lft) (x : RefT (List Node)) (i : ℕ) (r : Node) → ent 𝓤 (ensured 𝓤 H A node-at.ended (node-at.clauses 𝓤 H A mem run) (κ, tt) (x, (i, tt)) tt r) (fact 𝓤 (r ≡ getD (x .now) i noNode))
   at-of κ x i r = exE 𝓤 _ (λ ws. snd∗ 𝓤 (sem 𝓤 H A (lasts node-at.ended (κ, tt) (x, (i, tt)) ws)) (fact 𝓤 (r ≡ getD (x .now) i noNode)))
@@ -249,10 +249,10 @@ module _ {M : Type 1} (𝓤 : URA M) (H : Heap 𝓤) (A : Atoms 𝓤) (W : Given
       qed W (‵ ftrue ∷ []) ∵ suffices ! (onEntry 𝓤 H A drops.signature tt tt (e, tt) (ev ∷ [], tt)) (∗emp 𝓤 _) $
       frame ! $ nothing ! $ owned ! K.the-row (Is K.the-row) (EL.makes K.the-type K′.the-plain 𝓤 H A) e _ ge $ fjoin ! $ done !
 
-  abbrev to-drop : Seen → Bool → Val → Reading → Val → ℕ → DropRecord 𝓤 H A mem run .Ghost
+  abbrev to-drop : Inspection → Bool → Val → Reading → Val → ℕ → DropRecord 𝓤 H A mem run .Ghost
   to-drop seen t u m p n = (((κ′, tt), (q′, tt), tt, (x′ γ′, (t, (seen, (m, (n, tt))))), (s′ ∷ [], (u ∷ [], (seen-val seen ∷ [], (p ∷ [], (vint w64 n ∷ [], tt)))))), tt)
 
-  goes-drop : (seen : Seen) (t : Bool) (u : Val) (m : Reading) (p : Val) (n : ℕ) → n < 2 ^ 64 → Is S.the-row seen (seen-val seen ∷ []) → Is bool t (u ∷ []) → Is G.the-row m (p ∷ [])
+  goes-drop : (seen : Inspection) (t : Bool) (u : Val) (m : Reading) (p : Val) (n : ℕ) → n < 2 ^ 64 → Is S.the-row seen (seen-val seen ∷ []) → Is bool t (u ∷ []) → Is G.the-row m (p ∷ [])
       → ent 𝓤 (sep 𝓤 (A .lft κ′ q′) (sem 𝓤 H A (MutSlice (named 0) κ′ u8 .own (x′ γ′) (s′ ∷ [])))) (DropRecord 𝓤 H A mem run .pre (to-drop seen t u m p n))
   goes-drop seen t u m p n gn gs gt gm =
       qed W (‵ (flft κ′ q′) ∷ ‵ (MutSlice (named 0) κ′ u8 .own (x′ γ′) (s′ ∷ [])) ∷ []) ∵
@@ -260,19 +260,19 @@ module _ {M : Type 1} (𝓤 : URA M) (H : Heap 𝓤) (A : Atoms 𝓤) (W : Given
       nothing ! $ owned ! u64 (Is u64) (uint-makes 𝓤 H A W w64) n _ (refl, gn) $ fjoin ! $ owned ! G.the-row (Is G.the-row) (EL.makes G.the-type G′.the-plain 𝓤 H A) m _ gm $ fjoin ! $ owned ! S.the-row (Is S.the-row) (LL.makes S.the-type S′.the-plain 𝓤 H A) seen _ gs $ fjoin ! $ owned ! bool (Is bool) (bool-makes 𝓤 H A W) t _ gt $ fjoin ! $
       move ! (1 ∷ 0 ∷ []) $ fjoin ! $ done !
 
-  abbrev to-at : Seen → ℕ → GName → NodeAt 𝓤 H A mem run .Ghost
+  abbrev to-at : Inspection → ℕ → GName → NodeAt 𝓤 H A mem run .Ghost
   to-at seen ν δ = (((ν ∷ [], tt), (fullShare, tt), tt, (x δ, (seen .place, tt)), (s ∷ [], (vint w64 (seen .place) ∷ [], tt))), tt)
 
-  goes-at : (seen : Seen) (ν : ℕ) (δ : GName) → seen .place < 2 ^ 64 → ent 𝓤 (sep 𝓤 (A .lft (ν ∷ []) fullShare) (sem 𝓤 H A (ShrSlice (named 0) (ν ∷ []) T.the-row .own (x δ) (s ∷ [])))) (NodeAt 𝓤 H A mem run .pre (to-at seen ν δ))
+  goes-at : (seen : Inspection) (ν : ℕ) (δ : GName) → seen .place < 2 ^ 64 → ent 𝓤 (sep 𝓤 (A .lft (ν ∷ []) fullShare) (sem 𝓤 H A (ShrSlice (named 0) (ν ∷ []) T.the-row .own (x δ) (s ∷ [])))) (NodeAt 𝓤 H A mem run .pre (to-at seen ν δ))
   goes-at seen ν δ gi =
       qed W (‵ (flft (ν ∷ []) fullShare) ∷ ‵ (ShrSlice (named 0) (ν ∷ []) T.the-row .own (x δ) (s ∷ [])) ∷ []) ∵
       suffices ! (onEntry 𝓤 H A node-at.signature (ν ∷ [], tt) (fullShare, tt) (x δ, (seen .place, tt)) (s ∷ [], (vint w64 (seen .place) ∷ [], tt))) (∗emp 𝓤 _) $ nothing ! $ move ! (1 ∷ 0 ∷ []) $ join ! $ frame ! $
       nothing ! $ owned ! usize (Is usize) (uint-makes 𝓤 H A W w64) (seen .place) _ (refl, gi) $ fjoin ! $ move ! (1 ∷ 0 ∷ []) $ fjoin ! $ done !
 
-  abbrev to-act : Seen → Bool → Val → Reading → Val → Node → Val → Act 𝓤 H A mem run .Ghost
+  abbrev to-act : Inspection → Bool → Val → Reading → Val → Node → Val → Act 𝓤 H A mem run .Ghost
   to-act seen t u m p v w = (((κ′, tt), (q′, tt), tt, (x′ γ′, (v, (t, (seen, (m, (e, tt)))))), (s′ ∷ [], (w ∷ [], (u ∷ [], (seen-val seen ∷ [], (p ∷ [], (ev ∷ [], tt))))))), tt)
 
-  goes-act : (seen : Seen) (t : Bool) (u : Val) (m : Reading) (p : Val) (v : Node) (w : Val) → Is S.the-row seen (seen-val seen ∷ []) → Is bool t (u ∷ []) → Is G.the-row m (p ∷ []) → Is K.the-row e (ev ∷ [])
+  goes-act : (seen : Inspection) (t : Bool) (u : Val) (m : Reading) (p : Val) (v : Node) (w : Val) → Is S.the-row seen (seen-val seen ∷ []) → Is bool t (u ∷ []) → Is G.the-row m (p ∷ []) → Is K.the-row e (ev ∷ [])
       → ent 𝓤 (sep 𝓤 (A .lft κ′ q′) (sep 𝓤 (sem 𝓤 H A (T.the-row .own v (w ∷ []))) (sem 𝓤 H A (MutSlice (named 0) κ′ u8 .own (x′ γ′) (s′ ∷ []))))) (Act 𝓤 H A mem run .pre (to-act seen t u m p v w))
   goes-act seen t u m p v w gs gt gm ge =
       qed W (‵ (flft κ′ q′) ∷ ‵ (T.the-row .own v (w ∷ [])) ∷ ‵ (MutSlice (named 0) κ′ u8 .own (x′ γ′) (s′ ∷ [])) ∷ []) ∵
@@ -280,10 +280,10 @@ module _ {M : Type 1} (𝓤 : URA M) (H : Heap 𝓤) (A : Atoms 𝓤) (W : Given
       nothing ! $ owned ! K.the-row (Is K.the-row) (EL.makes K.the-type K′.the-plain 𝓤 H A) e _ ge $ fjoin ! $ owned ! G.the-row (Is G.the-row) (EL.makes G.the-type G′.the-plain 𝓤 H A) m _ gm $ fjoin ! $ owned ! S.the-row (Is S.the-row) (LL.makes S.the-type S′.the-plain 𝓤 H A) seen _ gs $ fjoin ! $ owned ! bool (Is bool) (bool-makes 𝓤 H A W) t _ gt $ fjoin ! $
       move ! (1 ∷ 0 ∷ []) $ fjoin ! $ move ! (1 ∷ 0 ∷ []) $ fjoin ! $ done !
 
-  abbrev to-replace : Seen → Acted → Replace 𝓤 H A mem run .Ghost
+  abbrev to-replace : Inspection → NodeResult → Replace 𝓤 H A mem run .Ghost
   to-replace seen r = (((κ, tt), (q, tt), tt, (x γ, (seen .place, (r .node, tt))), (s ∷ [], (vint w64 (seen .place) ∷ [], (node-val (r .node) ∷ [], tt)))), tt)
 
-  goes-replace : (seen : Seen) (r : Acted) → seen .place < 2 ^ 64 → Is T.the-row (r .node) (node-val (r .node) ∷ [])
+  goes-replace : (seen : Inspection) (r : NodeResult) → seen .place < 2 ^ 64 → Is T.the-row (r .node) (node-val (r .node) ∷ [])
       → ent 𝓤 (sep 𝓤 (A .lft κ q) (sem 𝓤 H A (MutSlice (named 0) κ T.the-row .own (x γ) (s ∷ [])))) (Replace 𝓤 H A mem run .pre (to-replace seen r))
   goes-replace seen r gi g =
       qed W (‵ (flft κ q) ∷ ‵ (MutSlice (named 0) κ T.the-row .own (x γ) (s ∷ [])) ∷ []) ∵
@@ -328,8 +328,8 @@ module _ {M : Type 1} (𝓤 : URA M) (H : Heap 𝓤) (A : Atoms 𝓤) (W : Given
         assigns ! (agg ! (and-then ! (load ! (from ! (stop !)) (look ! 30 refl)) (and-then ! (load ! (from ! (fld ! refl (stop !))) (look-in ! 50 (sub ! 1 refl (whole !)))) (no-more !)))) (from ! (stop !)) (init ! 28 refl (tt, (tt, (record { fits = room′ .0 }, tt)))) $
         lft-new ! tt (λ μ. move ! (1 ∷ 2 ∷ []) $ use2 W (later (some (λ (δ : GName). ‵ (ShrSlice (named 0) (μ ∷ []) u8 .own (x′ δ) (s′ ∷ [])) ⊛ ‵ (LentShared u8 κ′ (μ ∷ []) q′ γ′ b′ o′ st)))) (lends-shared u8 κ′ (μ ∷ []) q′ γ′ b′ o′ 𝓤 H A W (named 1) (named 0) st) $ await ! tt $ pick ! (λ δ′. split ! $
         move ! (2 ∷ 0 ∷ []) $ use2 W (raw (Look 𝓤 H A mem run .pre (to-look rᵣ wᵣ μ δ′))) (goes-look rᵣ wᵣ μ δ′ ge isᵣ) $ calls-at ! fm (Look 𝓤 H A mem run) known-look (to-look rᵣ wᵣ μ δ′) (and-then ! (load ! (from ! (stop !)) (look ! 28 refl)) (and-then ! (load ! (from ! (stop !)) (look ! 48 {τ = K′.mir} {b = l₃} {o = 0} {v = ev} refl)) (and-then ! (load ! (from ! (stop !)) (look ! 46 {τ = G′.mir} {b = l₄} {o = 0} {v = wᵣ} refl)) (no-more !)))) (λ w₀.
-        use1 W (later (some (λ (r : Seen). ((‵ (flft (μ ∷ []) fullShare) ⊛ ‵ ftrue) ⊛ ‵ (S.the-row .own r (w₀ ∷ []))) ⊛ raw (ensured 𝓤 H A looks.ended (looks.clauses 𝓤 H A mem run) (μ ∷ [], tt) (x′ δ′, (e, (rᵣ, tt))) tt r)))) (id⊢ 𝓤 _) $ await ! tt $ pick ! (λ r₀. split ! $ move ! (1 ∷ []) $
-        use1 W (raw (fact 𝓤 (r₀ ≡ lookAt e st rᵣ))) (look-of 𝓤 H A mem run (μ ∷ []) (x′ δ′) e rᵣ r₀) $ heard ! (r₀ ≡ lookAt e st rᵣ) (λ e₀. split ! $ split ! $ move ! (2 ∷ []) $ peeks ! S.the-row (Is S.the-row) (shows 𝓤 H A S.the-row) r₀ (w₀ ∷ []) (λ is₀. drop ! $ land ! (from ! (stop !)) (init ! 45 {τ = S′.mir} {b = l₅} {o = 0} {v = w₀} refl (LL.lawful S.the-type S′.the-laws 𝓤 H A W .typed r₀ _ is₀ .0)) $
+        use1 W (later (some (λ (r : Inspection). ((‵ (flft (μ ∷ []) fullShare) ⊛ ‵ ftrue) ⊛ ‵ (S.the-row .own r (w₀ ∷ []))) ⊛ raw (ensured 𝓤 H A looks.ended (looks.clauses 𝓤 H A mem run) (μ ∷ [], tt) (x′ δ′, (e, (rᵣ, tt))) tt r)))) (id⊢ 𝓤 _) $ await ! tt $ pick ! (λ r₀. split ! $ move ! (1 ∷ []) $
+        use1 W (raw (fact 𝓤 (r₀ ≡ inspectionOf e st rᵣ))) (look-of 𝓤 H A mem run (μ ∷ []) (x′ δ′) e rᵣ r₀) $ heard ! (r₀ ≡ inspectionOf e st rᵣ) (λ e₀. split ! $ split ! $ move ! (2 ∷ []) $ peeks ! S.the-row (Is S.the-row) (shows 𝓤 H A S.the-row) r₀ (w₀ ∷ []) (λ is₀. drop ! $ land ! (from ! (stop !)) (init ! 45 {τ = S′.mir} {b = l₅} {o = 0} {v = w₀} refl (LL.lawful S.the-type S′.the-laws 𝓤 H A W .typed r₀ _ is₀ .0)) $
         rewrite ! 45 (λ (u : Val). ‵ (fat fullShare S′.mir l₅ 0 u)) (ap only (LL.tells S.the-type S′.the-laws r₀ _ is₀)) refl $
         lft-end ! tt $ move ! (0 ∷ 2 ∷ []) $ use2 W (later (‵ (MutSlice (named 1) κ′ u8 .own (x′ γ′) (s′ ∷ [])) ⊛ ‵ (flft κ′ q′))) (shared-back u8 κ′ (μ ∷ []) q′ γ′ b′ o′ 𝓤 H A W (named 1) (named 0) st room′) $ await ! tt $ split ! $
         move ! (2 ∷ []) $ drop ! $
@@ -344,8 +344,8 @@ module _ {M : Type 1} (𝓤 : URA M) (H : Heap 𝓤) (A : Atoms 𝓤) (W : Given
         move ! (2 ∷ []) $ drop ! $
         -- which record the event drops
         nothing ! $ use1 W (raw (DroppingOf 𝓤 H A mem run .pre (to-dropping))) (goes-dropping ge) $ calls-at ! fm (DroppingOf 𝓤 H A mem run) known-dropping (to-dropping) (and-then ! (load ! (from ! (stop !)) (look ! 49 {τ = K′.mir} {b = l₃} {o = 0} {v = ev} refl)) (no-more !)) (λ w₂.
-        use1 W (later (some (λ (r : Dropping). (‵ ftrue ⊛ ‵ (D.the-row .own r (w₂ ∷ []))) ⊛ raw (ensured 𝓤 H A drops.ended (drops.clauses 𝓤 H A mem run) tt (e, tt) tt r)))) (id⊢ 𝓤 _) $ await ! tt $ pick ! (λ r₂. split ! $ move ! (1 ∷ []) $
-        use1 W (raw (fact 𝓤 (r₂ ≡ droppingOf e))) (dropping-of 𝓤 H A mem run e r₂) $ heard ! (r₂ ≡ droppingOf e) (λ e₂. split ! $ move ! (1 ∷ []) $ peeks ! D.the-row (Is D.the-row) (shows 𝓤 H A D.the-row) r₂ (w₂ ∷ []) (λ is₂. drop ! $ drop ! $ land ! (from ! (stop !)) (init ! 40 {τ = D′.mir} {b = l₇} {o = 0} {v = w₂} refl (LL.lawful D.the-type D′.the-laws 𝓤 H A W .typed r₂ _ is₂ .0)) $
+        use1 W (later (some (λ (r : DropTarget). (‵ ftrue ⊛ ‵ (D.the-row .own r (w₂ ∷ []))) ⊛ raw (ensured 𝓤 H A drops.ended (drops.clauses 𝓤 H A mem run) tt (e, tt) tt r)))) (id⊢ 𝓤 _) $ await ! tt $ pick ! (λ r₂. split ! $ move ! (1 ∷ []) $
+        use1 W (raw (fact 𝓤 (r₂ ≡ dropTargetOf e))) (dropping-of 𝓤 H A mem run e r₂) $ heard ! (r₂ ≡ dropTargetOf e) (λ e₂. split ! $ move ! (1 ∷ []) $ peeks ! D.the-row (Is D.the-row) (shows 𝓤 H A D.the-row) r₂ (w₂ ∷ []) (λ is₂. drop ! $ drop ! $ land ! (from ! (stop !)) (init ! 40 {τ = D′.mir} {b = l₇} {o = 0} {v = w₂} refl (LL.lawful D.the-type D′.the-laws 𝓤 H A W .typed r₂ _ is₂ .0)) $
         rewrite ! 40 (λ (u : Val). ‵ (fat fullShare D′.mir l₇ 0 u)) (ap only (LL.tells D.the-type D′.the-laws r₂ _ is₂)) refl $
         assigns ! (of-opd ! (load ! (from ! (fld ! {τ = tyBool} {d = 0} refl (stop !))) (look-in ! 40 (sub ! 0 {τ = tyBool} {d = 0} refl (whole !))))) (from ! (stop !)) (init ! 22 refl (tt, tt)) $
         first ! $ branches ! (load ! (from ! (stop !)) (look ! 22 refl))
@@ -375,7 +375,7 @@ module _ {M : Type 1} (𝓤 : URA M) (H : Heap 𝓤) (A : Atoms 𝓤) (W : Given
         assigns ! (addr ! (from ! (fld ! refl (hop ! (look-in ! 51 (sub ! 0 refl (whole !))) (stop !))))) (from ! (stop !)) (init ! 13 refl (tt, tt)) $
         assigns ! (agg ! (and-then ! (load ! (from ! (stop !)) (look ! 13 refl)) (and-then ! (load ! (from ! (fld ! refl (stop !))) (look-in ! 51 (sub ! 1 refl (whole !)))) (no-more !)))) (from ! (stop !)) (init ! 11 refl (tt, (tt, (record { fits = room′ .0 }, tt)))) $
         move ! (4 ∷ 2 ∷ 3 ∷ []) $ use3 W (raw (Act 𝓤 H A mem run .pre (to-act r₀ r₁ w₁ rᵣ wᵣ r₃ w₃))) (goes-act r₀ r₁ w₁ rᵣ wᵣ r₃ w₃ (seen-is r₀ _ is₀) is₁ isᵣ ge) $ calls-at ! fm (Act 𝓤 H A mem run) known-act (to-act r₀ r₁ w₁ rᵣ wᵣ r₃ w₃) (and-then ! (load ! (from ! (stop !)) (look ! 9 refl)) (and-then ! (load ! (from ! (stop !)) (look ! 37 {τ = T′.mir} {b = l₈} {o = 0} {v = w₃} refl)) (and-then ! (load ! (from ! (stop !)) (look ! 41 refl)) (and-then ! (load ! (from ! (stop !)) (look ! 43 {τ = S′.mir} {b = l₅} {o = 0} {v = seen-val r₀} refl)) (and-then ! (load ! (from ! (stop !)) (look ! 45 {τ = G′.mir} {b = l₄} {o = 0} {v = wᵣ} refl)) (and-then ! (load ! (from ! (stop !)) (look ! 47 {τ = K′.mir} {b = l₃} {o = 0} {v = ev} refl)) (no-more !))))))) (λ w₄.
-        use1 W (later (some (λ (r : Acted). ((‵ (flft κ′ q′) ⊛ ‵ ftrue) ⊛ ‵ (O.the-row .own r (w₄ ∷ []))) ⊛ raw (ensured 𝓤 H A acts.ended (acts.clauses 𝓤 H A mem run) (κ′, tt) (x′ γ′, (r₃, (r₁, (r₀, (rᵣ, (e, tt)))))) tt r)))) (id⊢ 𝓤 _) $ await ! tt $ pick ! (λ r₄. split ! $ move ! (1 ∷ []) $
+        use1 W (later (some (λ (r : NodeResult). ((‵ (flft κ′ q′) ⊛ ‵ ftrue) ⊛ ‵ (O.the-row .own r (w₄ ∷ []))) ⊛ raw (ensured 𝓤 H A acts.ended (acts.clauses 𝓤 H A mem run) (κ′, tt) (x′ γ′, (r₃, (r₁, (r₀, (rᵣ, (e, tt)))))) tt r)))) (id⊢ 𝓤 _) $ await ! tt $ pick ! (λ r₄. split ! $ move ! (1 ∷ []) $
         use1 W (some (λ (zs : List ℕ × (Unit {0} × (Unit {0} × (Unit {0} × (Unit {0} × (Unit {0} × Unit {0})))))). ‵ (lasts acts.ended (κ′, tt) (x′ γ′, (r₃, (r₁, (r₀, (rᵣ, (e, tt)))))) zs) ⊛ raw (fact 𝓤 (Acts e r₁ r₀ rᵣ r₃ st r₄ (zs .0))))) (id⊢ 𝓤 _) $ pick ! (λ zs₄. split ! $ move ! (1 ∷ []) $
         heard ! (Acts e r₁ r₀ rᵣ r₃ st r₄ (zs₄ .0)) (λ e₄. fsplit ! $ fsplit ! $ move ! (1 ∷ []) $ feqL ! (λ same₄. move ! (2 ∷ []) $ split ! $ split ! $ move ! (2 ∷ []) $ peeks ! O.the-row (Is O.the-row) (shows 𝓤 H A O.the-row) r₄ (w₄ ∷ []) (λ is₄. drop ! $ land ! (from ! (stop !)) (init ! 38 {τ = O′.mir} {b = l₉} {o = 0} {v = w₄} refl (LL.lawful O.the-type O′.the-laws 𝓤 H A W .typed r₄ _ is₄ .0)) $
         rewrite ! 38 (λ (u : Val). ‵ (fat fullShare O′.mir l₉ 0 u)) (ap only (LL.tells O.the-type O′.the-laws r₄ _ is₄)) refl $
@@ -410,9 +410,9 @@ perform-spec 𝓤 H 𝓜 𝓖 𝓡 =
     (tables 𝓤 H 𝓜 𝓡 code.env .C) (tables 𝓤 H 𝓜 𝓡 code.env .Λ) #perform code.function (code.unfolded 𝓤 H 𝓜 𝓡)
     (perform-meets 𝓤 H (𝓖 .A) (givenOf 𝓤 H 𝓜 𝓖) (𝓜 .mem) (𝓡 .run) (tablesOf 𝓤 H 𝓜 (tables 𝓤 H 𝓜 𝓡 code.env))
     (cited 𝓤 H (Read 𝓤 H (𝓖 .A) (𝓜 .mem) (𝓡 .run)) 𝓜 𝓡 code.env #read read-def.routine code.calls-act·read (read-thm.met 𝓤 H 𝓜 𝓖 𝓡))
-    (cited 𝓤 H (Look 𝓤 H (𝓖 .A) (𝓜 .mem) (𝓡 .run)) 𝓜 𝓡 code.env #look look-def.routine code.calls-act·look (look-thm.met 𝓤 H 𝓜 𝓖 𝓡))
+    (cited 𝓤 H (Look 𝓤 H (𝓖 .A) (𝓜 .mem) (𝓡 .run)) 𝓜 𝓡 code.env #look look-def.routine code.calls-act·inspect (look-thm.met 𝓤 H 𝓜 𝓖 𝓡))
     (cited 𝓤 H (Check 𝓤 H (𝓖 .A) (𝓜 .mem) (𝓡 .run)) 𝓜 𝓡 code.env #check check-def.routine code.calls-table·check-table (check-thm.met 𝓤 H 𝓜 𝓖 𝓡))
-    (cited 𝓤 H (DroppingOf 𝓤 H (𝓖 .A) (𝓜 .mem) (𝓡 .run)) 𝓜 𝓡 code.env #drops drops-def.routine code.calls-act·dropping (drops-thm.met 𝓤 H 𝓜 𝓖 𝓡))
+    (cited 𝓤 H (DroppingOf 𝓤 H (𝓖 .A) (𝓜 .mem) (𝓡 .run)) 𝓜 𝓡 code.env #drops drops-def.routine code.calls-act·drop-target (drops-thm.met 𝓤 H 𝓜 𝓖 𝓡))
     (cited 𝓤 H (DropRecord 𝓤 H (𝓖 .A) (𝓜 .mem) (𝓡 .run)) 𝓜 𝓡 code.env #record-drop record-drop-def.routine code.calls-act·drop-record (record-drop-thm.met 𝓤 H 𝓜 𝓖 𝓡))
     (cited 𝓤 H (NodeAt 𝓤 H (𝓖 .A) (𝓜 .mem) (𝓡 .run)) 𝓜 𝓡 code.env #node-at node-at-def.routine code.calls-table·node-at (node-at-thm.met 𝓤 H 𝓜 𝓖 𝓡))
     (cited 𝓤 H (Act 𝓤 H (𝓖 .A) (𝓜 .mem) (𝓡 .run)) 𝓜 𝓡 code.env #act act-def.routine code.calls-act·act (act-thm.met 𝓤 H 𝓜 𝓖 𝓡))

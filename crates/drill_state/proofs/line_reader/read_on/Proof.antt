@@ -67,8 +67,8 @@ loop-again c =
 has-room-requires : tie.Need-has-room-requires Inv-loop μ-loop
 has-room-requires c κs = search needs
 
-read-pending-requires : tie.Need-read-pending-requires Inv-loop μ-loop
-read-pending-requires c κs = search needs
+read-buffer-requires : tie.Need-read-buffer-requires Inv-loop μ-loop
+read-buffer-requires c κs = search needs
 
 line-for-requires : tie.Need-line-for-requires Inv-loop μ-loop
 line-for-requires c κs = search needs
@@ -102,7 +102,7 @@ returns c =
     let l = r .before .before .before .before .loop in
     let h = r .before .before .before .loop-test .taken in
     let room : l .at + lineRoom ≤ length (l .out) = leb-true _ _ (granted (r .has-room .ensures) (t .before .before .before .before .before .before .if2 .left)) in
-    let line = t .before .before .before .line-for .ensures ∙ ap (lineFor _) (t .before .before .before .before .read-pending .ensures) in
+    let line = t .before .before .before .line-for .ensures ∙ ap (lineFor _) (t .before .before .before .before .read-buffer .ensures) in
     let asked = sym (t .before .is-asked .ensures) ∙ t .if4 .taken in
     rw (c .asking .ensures, c .before .asked-by .ensures)
     (record {
@@ -124,7 +124,7 @@ loop-again-2 c =
     let l = r .before .before .before .before .loop in
     let h = r .before .before .before .loop-test .taken in
     let room : l .at + lineRoom ≤ length (l .out) = leb-true _ _ (granted (r .has-room .ensures) (t .before .before .before .before .before .before .if2 .left)) in
-    let line = t .before .before .before .line-for .ensures ∙ ap (lineFor _) (t .before .before .before .before .read-pending .ensures) in
+    let line = t .before .before .before .line-for .ensures ∙ ap (lineFor _) (t .before .before .before .before .read-buffer .ensures) in
     let none = not-asked _ (sym (t .before .is-asked .ensures) ∙ t .if4 .left) in
     let printed = c .before .before .print-line .ensures in (
       omega (arith, t .before .before .before .before .before .if3 .left, l .inv .0),
@@ -181,7 +181,7 @@ read-on-spec =
     loop-less
     loop-again
     has-room-requires
-    read-pending-requires
+    read-buffer-requires
     line-for-requires
     none-requires
     add-count

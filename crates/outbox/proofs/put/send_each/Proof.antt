@@ -1,4 +1,4 @@
--- `outbox::mail::send_each` meets its contract. The invariant: the messages that are left give the answer.
+-- `outbox::put::send_each` meets its contract. The invariant: the messages that are left give the answer.
 use Prim.Native.Nat.{_-_, _≤_}
 use mathlib.Core.Path.{_≡_, refl, sym, _∙_}
 use native.Mathlib.Omega.{arith}
@@ -11,8 +11,8 @@ use Rattle.protocol.specs.Outgoing.{outgoing}
 use Rattle.outbox.proofs.Places.{outgoingLeft, left-cons, left-none}
 use Rattle.outbox.proofs.Each.{put-turn, put-end}
 use borrow.Author.Needs.{needs}
-use Rattle.outbox.proofs.mail.send_each.Statement.{statement}
-use Rattle.outbox.proofs.mail.send_each.Tie as tie
+use Rattle.outbox.proofs.put.send_each.Statement.{statement}
+use Rattle.outbox.proofs.put.send_each.Tie as tie
 
 abbrev Inv-loop : tie.InvT-loop
 Inv-loop s₀ node sends back items k₀ s k = (k ≤ maxNodes) × (length s ≡ length s₀) × (onRecords (λ rs. putEach rs (outgoingLeft node sends back k) items) s ≡ onRecords (λ rs. putEach rs (outgoing node sends back) items) s₀)

@@ -1,10 +1,10 @@
--- `script::buffer::Pending::push` meets its contract: the test of the definition decides both.
+-- `script::buffer::LineBuffer::push` meets its contract: the test of the definition decides both.
 use native.Mathlib.Numerals.{add-one}
 use borrow.Author.Tests.{lt-ltb, le-ltb}
 use borrow.Author.Needs.{needs}
-use Rattle.script.specs.Pending.{pushed}
-use Rattle.script.proofs.buffer.Pending.push.Statement.{statement}
-use Rattle.script.proofs.buffer.Pending.push.Tie as tie
+use Rattle.script.specs.LineBuffer.{pushed}
+use Rattle.script.proofs.buffer.LineBuffer.push.Statement.{statement}
+use Rattle.script.proofs.buffer.LineBuffer.push.Tie as tie
 
 returns : tie.Need-returns
 unfolding pushed

@@ -1,4 +1,4 @@
--- `outbox::mail::send_to` meets its contract: its test is that of the definition.
+-- `outbox::put::send_to` meets its contract: its test is that of the definition.
 use Prim.Native.Nat.{ℕ}
 use mathlib.Core.Path.{sym, _∙_}
 use mathlib.Core.List.{List}
@@ -7,8 +7,8 @@ use Rattle.store.specs.Records.{onRecords}
 use Rattle.store.specs.Change.{putIn}
 use borrow.Author.Tests.{not-true, not-false}
 use borrow.Author.Needs.{needs}
-use Rattle.outbox.proofs.mail.send_to.Statement.{statement}
-use Rattle.outbox.proofs.mail.send_to.Tie as tie
+use Rattle.outbox.proofs.put.send_to.Statement.{statement}
+use Rattle.outbox.proofs.put.send_to.Tie as tie
 
 is-sent-requires : tie.Need-is-sent-requires
 is-sent-requires c κs = search needs

@@ -1,4 +1,4 @@
--- `store_check::of` meets its contract: each way out by one law of `Passing`, the last two by the same.
+-- `store_check::check_store` meets its contract: each way out by one law of `Passing`, the last two by the same.
 use Prim.Native.Nat.{_-_}
 use mathlib.Core.Path.{sym, _∙_}
 use denote.Ref.{now}
@@ -9,8 +9,8 @@ use Rattle.store.specs.Records.{rightLength}
 use Rattle.store.specs.Sound.{survey}
 use Rattle.store_check.proofs.Passing.{survey-size, survey-head, survey-is, free-is}
 use borrow.Author.Needs.{needs}
-use Rattle.store_check.proofs.of.Statement.{statement}
-use Rattle.store_check.proofs.of.Tie as tie
+use Rattle.store_check.proofs.check_store.Statement.{statement}
+use Rattle.store_check.proofs.check_store.Tie as tie
 
 returns : tie.Need-returns
 unfolding survey rightLength
@@ -86,8 +86,8 @@ returns-6 c =
     let free = free-is s (t .before .before .before .before .before .before .before .before .before .before .before .before .if1 .left) _ _ _ (t .before .before .before .before .before .first-free .ensures) (t .before .before .before .before .before .before .head-passed .ensures) (t .before .before .before .follow-free .ensures) in
     sym (survey-is s (t .before .before .before .before .before .before .before .before .before .before .before .before .if1 .left) (g .result) (g .ensures) _ _ (granted (t .before .before .before .before .before .before .before .before .before .before .valid-size .ensures) (t .before .before .before .before .before .before .before .before .before .if2 .left)) (granted (t .before .before .before .before .before .before .before .before .head-zero .ensures) (t .before .before .before .before .before .before .before .if3 .left)) free (w .ensures) ∙ rw (not-false (w .result .ok) (c .before .before .before .if4 .left), granted (c .before .all-passed .ensures) (c .if5 .left)))
 
-pub of-spec : {M : Type 1} → statement M
-of-spec =
+pub check-store-spec : {M : Type 1} → statement M
+check-store-spec =
     tie.close
     (tie.spec
     returns

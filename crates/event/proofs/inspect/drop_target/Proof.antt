@@ -1,8 +1,8 @@
--- `event::inspect::dropping` meets its contract: an arm for each event.
-use Rattle.event.specs.Act.{droppingOf}
+-- `event::inspect::drop_target` meets its contract: an arm for each event.
+use Rattle.event.specs.Act.{dropTargetOf}
 use borrow.Author.Needs.{needs}
-use Rattle.event.proofs.inspect.dropping.Statement.{statement}
-use Rattle.event.proofs.inspect.dropping.Tie as tie
+use Rattle.event.proofs.inspect.drop_target.Statement.{statement}
+use Rattle.event.proofs.inspect.drop_target.Tie as tie
 
 enum-told : tie.Need-enum-told
 enum-told c = search needs
@@ -38,31 +38,31 @@ no-drop-requires-5 : tie.Need-no-drop-requires-5
 no-drop-requires-5 c κs = search needs
 
 returns : tie.Need-returns
-unfolding droppingOf
+unfolding dropTargetOf
 returns c = rw (c .no-drop .ensures, c .before .enum-told .given .1)
 
 returns-2 : tie.Need-returns-2
-unfolding droppingOf
+unfolding dropTargetOf
 returns-2 c = rw (c .no-drop2 .ensures, c .before .enum-told2 .given .1)
 
 returns-3 : tie.Need-returns-3
-unfolding droppingOf
+unfolding dropTargetOf
 returns-3 c = rw (c .no-drop3 .ensures, c .before .enum-told3 .given .1)
 
 returns-4 : tie.Need-returns-4
-unfolding droppingOf
+unfolding dropTargetOf
 returns-4 c = rw (c .no-drop4 .ensures, c .before .enum-told4 .given .1)
 
 returns-5 : tie.Need-returns-5
-unfolding droppingOf
+unfolding dropTargetOf
 returns-5 c = rw (c .before .event .given .1)
 
 returns-6 : tie.Need-returns-6
-unfolding droppingOf
+unfolding dropTargetOf
 returns-6 c = rw (c .no-drop5 .ensures, c .before .enum-told5 .given .1)
 
-pub dropping-spec : {M : Type 1} → statement M
-dropping-spec =
+pub drop-target-spec : {M : Type 1} → statement M
+drop-target-spec =
     tie.close
     (tie.spec
     enum-told
