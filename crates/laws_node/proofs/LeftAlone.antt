@@ -24,7 +24,7 @@ use Rattle.protocol.proofs.Rows.{row-kept, begun-other}
 use Rattle.laws_node.specs.Decision.{Decision, Retry, Crash, Start}
 use Rattle.laws_node.specs.Fields.{Changed, among, changed, changedBy, Leaves}
 use Rattle.laws_node.specs.Laws.{OthersLeftAlone}
-use Rattle.laws_node.proofs.Outcome.{Received, declines, takes, countsStored, asks, confirms, countsConfirmed, ends, tells, countsTable, stops, writesBack, Outcome, refuses, writes, fetchesAgain, retries, crashes, starts, receives, asking, outcome}
+use Rattle.laws_node.proofs.Outcome.{Received, declines, takes, countsStored, asks, confirms, countsConfirmed, ends, tells, countsTable, stops, writesBack, Outcome, refuses, writes, fetchesAgain, retries, crashes, starts, receives, outcome}
 
 -- a field that may change
 may : {A : Type 0} → true ≡ false → A
@@ -119,48 +119,22 @@ module _ (node : Node) where
   }
 
 -- Stored and Confirmed: the phase and the peers; rows are not touched
-module _ (node : Node) (s : ℕ) (i o : Incarnation) (a : Attempt) (item : Item) where
-  counted : Leaves (changedBy (message.Stored o a item) s) node (withCounted node s i)
-  unfolding withCounted changedBy rowOf
-  counted = record {
-    same-number = refl;
-    same-size = refl;
-    same-incarnation = λ _. refl;
-    same-attempt = λ _. refl;
-    same-phase = may;
-    same-row = λ _ _. refl;
-    same-counted = may;
-    same-asked = may;
-    while-fetching = λ _ _. (refl, refl);
-  }
-
-  asked : isStoring (node .phase) ≡ true → Leaves (changedBy (message.Stored o a item) s) node (asking node s i)
-  unfolding confirmingBegun withCounted changedBy rowOf
-  asked e = record {
-    same-number = refl;
-    same-size = refl;
-    same-incarnation = λ _. refl;
-    same-attempt = λ _. refl;
-    same-phase = may;
-    same-row = λ _ _. refl;
-    same-counted = may;
-    same-asked = may;
-    while-fetching = λ f g. never (sym (storing-not-fetching (node .phase) e) ∙ f);
-  }
-
-  ended : Leaves (changedBy (message.Confirmed o a item) s) node (writeEnded (withCounted node s i))
-  unfolding writeEnded withCounted changedBy rowOf
-  ended = record {
-    same-number = refl;
-    same-size = refl;
-    same-incarnation = λ _. refl;
-    same-attempt = λ _. refl;
-    same-phase = may;
-    same-row = λ _ _. refl;
-    same-counted = may;
-    same-asked = may;
-    while-fetching = λ f g. never g;
-  }
+counted : (node after : Node) (s : ℕ) (o : Incarnation) (a : Attempt) (item : Item) → after .number ≡ node .number → after .n ≡ node .n
+    → after .incarnation ≡ node .incarnation → after .attempt ≡ node .attempt → ((i : ℕ) → rowOf after i ≡ rowOf node i)
+    → (isFetching (node .phase) ≡ true → isFetching (after .phase) ≡ true → after .asked ≡ node .asked)
+    → Leaves (changedBy (message.Stored o a item) s) node after
+unfolding changedBy
+counted node after s o a item number size incarnation attempt rows h = record {
+  same-number = number;
+  same-size = size;
+  same-incarnation = λ _. incarnation;
+  same-attempt = λ _. attempt;
+  same-phase = may;
+  same-row = λ i _. rows i;
+  same-counted = may;
+  same-asked = may;
+  while-fetching = λ f g. (attempt, h f g);
+}
 
 -- Table: all but the incarnation; and only what leaves Fetching changes the attempt
 tabled : (node after : Node) (s : ℕ) (o : Incarnation) → after .number ≡ node .number → after .n ≡ node .n
@@ -182,14 +156,14 @@ tabled node after s o number size incarnation h = record {
 
 received-leaves : (node : Node) (s : ℕ) (i : Incarnation) (items : List Item) (m : Message) (step : Step)
     → Received node s i items m step → Leaves (changedBy m s) node (step .node)
-unfolding refused ok sendConfirm sendStore storeSuccess stopped writtenBack storingBegun crashed blankNode withTable withCounted withRows changedBy
+unfolding refused ok sendConfirm sendStore storeSuccess stopped writtenBack storingBegun crashed blankNode withTable withCounted withRows confirmingBegun writeEnded changedBy rowOf
 received-leaves node s i items m step (declines m′ why) = kept node _
 received-leaves node s i items m step (takes a item up) = taken node s _ a item
-received-leaves node s i items m step (countsStored o a item e l) = counted node s i o a item
-received-leaves node s i items m step (asks o a item e l) = asked node s i o a item e
+received-leaves node s i items m step (countsStored o a item e l) = counted node _ s o a item refl refl refl refl (λ _. refl) (λ _ _. refl)
+received-leaves node s i items m step (asks o a item e l) = counted node _ s o a item refl refl refl refl (λ _. refl) (λ f g. never (sym (storing-not-fetching (node .phase) e) ∙ f))
 received-leaves node s i items m step (confirms o a item) = kept node _
-received-leaves node s i items m step (countsConfirmed o a item e h l) = counted node s i o a item
-received-leaves node s i items m step (ends o a item e) = ended node s i o a item
+received-leaves node s i items m step (countsConfirmed o a item e h l) = counted node _ s o a item refl refl refl refl (λ _. refl) (λ _ _. refl)
+received-leaves node s i items m step (ends o a item e) = counted node _ s o a item refl refl refl refl (λ _. refl) (λ f g. never g)
 received-leaves node s i items m step (tells e) = kept node _
 received-leaves node s i items m step (countsTable o e l) = tabled node _ s o refl refl refl (λ _. (refl, refl))
 received-leaves node s i items m step (stops o) = tabled node _ s o refl refl refl (λ g. never g)
