@@ -1,4 +1,4 @@
--- `engine_runs::print_sends` is safe and ends: k goes up to the number of nodes.
+-- `try_engine::print_sends` is safe and ends: k goes up to the number of nodes.
 use Prim.Native.Nat.{_≤_, _-_}
 use borrow.Author.Needs.{needs}
 use Rattle.try_engine.proofs.print_sends.Statement.{statement}

@@ -1,4 +1,4 @@
--- `engine_runs::run` is safe and ends: i goes up to the length of the script.
+-- `try_engine::run` is safe and ends: i goes up to the length of the script.
 use Prim.Native.Nat.{_≤_, _-_}
 use lib.ListN.{length}
 use borrow.Author.Needs.{needs}

@@ -1,4 +1,4 @@
--- `records::print` is safe and ends. The invariant: the place is within the slice.
+-- `try_records::print` is safe and ends. The invariant: the place is within the slice.
 use lib.ListN.{length}
 use Prim.Native.Nat.{_≤_, _-_}
 use borrow.Author.Needs.{needs}
