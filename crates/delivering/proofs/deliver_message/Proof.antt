@@ -6,7 +6,7 @@ use Rattle.protocol.specs.Deliver.{deliverStep}
 use Rattle.protocol.specs.Fetching.{onTable}
 use Rattle.sender_view.specs.Decision.{stepBy}
 use Rattle.engine.specs.Decided.{decidedStep}
-use Rattle.engine.proofs.Agree.{decided-agrees}
+use Rattle.engine.proofs.Agree.{found-agrees}
 use denote.Ref.{now}
 use mathlib.Core.Path.{sym, ap, _∙_}
 use borrow.Author.Needs.{needs}
@@ -55,7 +55,7 @@ returns-2 c =
     let a = c .before .before .before .before .before .before .before .before .before .before .before .before .before .before .args in
     let found = c .before .before .before .before .before .before .before .before .before .before .before .reading .given .0 .0 in
     let rows = rowsOf (recordOf (now (a .s)) (a .r)) in
-    let decided = rw (← c .before .before .before .before .before .before .before .before .view-of .ensures, ← c .before .before .before .before .before .before .before .decide .ensures, c .before .before .before .before .before .decision .given .1) at (decided-agrees (found .message) (a .node) (found .sender) (found .incarnation) rows) in
+    let decided = rw (c .before .before .before .before .before .decision .given .1) at (found-agrees (found .message) (a .node) (found .sender) (found .incarnation) rows _ _ (c .before .before .before .before .before .before .before .before .view-of .ensures) (c .before .before .before .before .before .before .before .decide .ensures)) in
     let e = delivered-some (a .node) (now (a .s)) (a .r) (a .free) (stepBy (a .node) (found .sender) (c .before .before .before .before .before .decision .given .0 .0)) (c .before .before .before .before .before .before .before .before .before .before .before .reading .given .1) decided in
     let d = c .before .before .carry-decision .ensures in
     (d .0 ∙ ap handedBack (sym e), d .1 ∙ ap (λ (o : Outcome). o .store) (sym e))
@@ -69,7 +69,7 @@ returns-3 c =
     let a = c .before .before .before .before .before .before .before .before .before .before .before .before .before .before .args in
     let found = c .before .before .before .before .before .before .before .before .before .before .before .reading .given .0 .0 in
     let rows = rowsOf (recordOf (now (a .s)) (a .r)) in
-    let decided = rw (← c .before .before .before .before .before .before .before .before .view-of .ensures, ← c .before .before .before .before .before .before .before .decide .ensures, c .before .before .before .before .before .other .given .1) at (decided-agrees (found .message) (a .node) (found .sender) (found .incarnation) rows) in
+    let decided = rw (c .before .before .before .before .before .other .given .1) at (found-agrees (found .message) (a .node) (found .sender) (found .incarnation) rows _ _ (c .before .before .before .before .before .before .before .before .view-of .ensures) (c .before .before .before .before .before .before .before .decide .ensures)) in
     let e = delivered-some (a .node) (now (a .s)) (a .r) (a .free) (onTable (a .node) (found .sender) (found .incarnation) (c .before .before .before .before .before .other .given .0 .0) rows) (c .before .before .before .before .before .before .before .before .before .before .before .reading .given .1) decided in
     let d = c .before .before .deliver-table .ensures in
     (d .0 ∙ ap handedBack (sym e), d .1 ∙ ap (λ (o : Outcome). o .store) (sym e))

@@ -2,7 +2,7 @@
 use mathlib.Core.Path.{_∙_}
 use Rattle.protocol.specs.Deliver.{deliverStep}
 use Rattle.engine.specs.Decided.{decidedStep}
-use Rattle.engine.proofs.Agree.{decided-agrees}
+use Rattle.engine.proofs.Agree.{found-agrees}
 use borrow.Author.Needs.{needs}
 use Rattle.engine.proofs.deliver.Statement.{statement}
 use Rattle.engine.proofs.deliver.Tie as tie
@@ -29,15 +29,15 @@ returns : tie.Need-returns
 unfolding decidedStep deliverStep
 returns c =
     let a = c .before .before .before .before .before .before .before .args in
-    let decided = decided-agrees (a .envelope .message) (a .node) (a .envelope .sender) (a .envelope .incarnation) (a .items) in
-    c .step-of .ensures ∙ rw (← c .before .before .before .before .before .view-of .ensures, ← c .before .before .before .before .decide .ensures, c .before .before .decision .given .1) at decided
+    let decided = found-agrees (a .envelope .message) (a .node) (a .envelope .sender) (a .envelope .incarnation) (a .items) _ _ (c .before .before .before .before .before .view-of .ensures) (c .before .before .before .before .decide .ensures) in
+    c .step-of .ensures ∙ rw (c .before .before .decision .given .1) at decided
 
 returns-2 : tie.Need-returns-2
 unfolding decidedStep deliverStep
 returns-2 c =
     let a = c .before .before .before .before .before .before .before .args in
-    let decided = decided-agrees (a .envelope .message) (a .node) (a .envelope .sender) (a .envelope .incarnation) (a .items) in
-    c .on-table .ensures ∙ rw (← c .before .before .before .before .before .view-of .ensures, ← c .before .before .before .before .decide .ensures, c .before .before .other .given .1) at decided
+    let decided = found-agrees (a .envelope .message) (a .node) (a .envelope .sender) (a .envelope .incarnation) (a .items) _ _ (c .before .before .before .before .before .view-of .ensures) (c .before .before .before .before .decide .ensures) in
+    c .on-table .ensures ∙ rw (c .before .before .other .given .1) at decided
 
 pub deliver-spec : {M : Type 1} → statement M
 deliver-spec =

@@ -12,7 +12,7 @@ refused-requires c κs = tt
 
 returns : tie.Need-returns
 unfolding confirmDecision
-returns c = rw (c .refused .ensures, refuted (c .before .before .is-up .ensures) (c .before .if1 .taken))
+returns c = simp (c .refused .ensures, refuted (c .before .before .is-up .ensures) (c .before .if1 .taken))
 
 same-requires : tie.Need-same-requires
 same-requires c κs = tt
@@ -25,7 +25,7 @@ unfolding confirmDecision
 returns-2 c =
     let up = granted (c .before .before .before .before .is-up .ensures) (c .before .before .before .if1 .left) in
     let own = refuted (c .before .before .same .ensures) (c .before .if2 .taken) in
-    rw (c .refused2 .ensures, up, own)
+    simp (c .refused2 .ensures, up, own)
 
 stored-under-requires : tie.Need-stored-under-requires
 stored-under-requires c κs = tt
@@ -39,7 +39,7 @@ returns-3 c =
     let up = granted (c .before .before .before .before .before .before .before .is-up .ensures) (c .before .before .before .before .before .before .if1 .left) in
     let own = granted (c .before .before .before .before .before .same .ensures) (c .before .before .before .before .if2 .left) in
     let under = refuted (c .before .before .stored-under .ensures) (c .before .if3 .taken) in
-    rw (c .refused3 .ensures, up, own, under)
+    simp (c .refused3 .ensures, up, own, under)
 
 ok-requires : tie.Need-ok-requires
 ok-requires c κs = tt
@@ -50,7 +50,7 @@ returns-4 c =
     let up = granted (c .before .before .before .before .before .before .before .is-up .ensures) (c .before .before .before .before .before .before .if1 .left) in
     let own = granted (c .before .before .before .before .before .same .ensures) (c .before .before .before .before .if2 .left) in
     let under = granted (c .before .before .stored-under .ensures) (c .before .if3 .left) in
-    rw (c .ok .ensures, up, own, under)
+    simp (c .ok .ensures, up, own, under)
 
 pub on-confirm-spec : {M : Type 1} → statement M
 on-confirm-spec =

@@ -15,7 +15,7 @@ returns : tie.Need-returns
 unfolding confirmedCountedDecision belowHalfIn
 returns c =
     let few = rw (c .before .before .before .half .ensures) at (lt-ltb _ _ (c .before .if1 .taken)) in
-    rw (c .ok .ensures, few)
+    simp (c .ok .ensures, few)
 
 store-success-requires : tie.Need-store-success-requires
 store-success-requires c κs = tt
@@ -24,7 +24,7 @@ returns-2 : tie.Need-returns-2
 unfolding confirmedCountedDecision belowHalfIn
 returns-2 c =
     let enough = rw (c .before .before .before .before .half .ensures) at (le-ltb _ _ (c .before .before .if1 .left)) in
-    rw (c .store-success .ensures, enough)
+    simp (c .store-success .ensures, enough)
 
 pub confirmed-counted-spec : {M : Type 1} → statement M
 confirmed-counted-spec =

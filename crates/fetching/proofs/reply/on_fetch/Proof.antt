@@ -12,14 +12,14 @@ refused-requires c κs = tt
 
 returns : tie.Need-returns
 unfolding fetchDecision
-returns c = rw (c .refused .ensures, refuted (c .before .before .is-up .ensures) (c .before .if1 .taken))
+returns c = simp (c .refused .ensures, refuted (c .before .before .is-up .ensures) (c .before .if1 .taken))
 
 ok-requires : tie.Need-ok-requires
 ok-requires c κs = tt
 
 returns-2 : tie.Need-returns-2
 unfolding fetchDecision
-returns-2 c = rw (c .ok .ensures, granted (c .before .before .is-up .ensures) (c .before .if1 .left))
+returns-2 c = simp (c .ok .ensures, granted (c .before .before .is-up .ensures) (c .before .if1 .left))
 
 pub on-fetch-spec : {M : Type 1} → statement M
 on-fetch-spec = tie.close (tie.spec is-up-requires refused-requires returns ok-requires returns-2)

@@ -9,7 +9,7 @@ same-requires c κs = tt
 
 returns : tie.Need-returns
 unfolding ownWriteIn
-returns c = rw (refuted (c .before .same .ensures) (c .if1 .taken))
+returns c = simp (refuted (c .before .same .ensures) (c .if1 .taken))
 
 same-requires-2 : tie.Need-same-requires-2
 same-requires-2 c κs = tt
@@ -18,7 +18,7 @@ returns-2 : tie.Need-returns-2
 unfolding ownWriteIn
 returns-2 c =
     let incarnation = granted (c .before .before .before .same .ensures) (c .before .before .if1 .left) in
-    rw (incarnation, refuted (c .before .same2 .ensures) (c .if2 .taken))
+    simp (incarnation, refuted (c .before .same2 .ensures) (c .if2 .taken))
 
 same-requires-3 : tie.Need-same-requires-3
 same-requires-3 c κs = tt
@@ -28,7 +28,7 @@ unfolding ownWriteIn
 returns-3 c =
     let incarnation = granted (c .before .before .before .before .same .ensures) (c .before .before .before .if1 .left) in
     let attempt = granted (c .before .before .same2 .ensures) (c .before .if2 .left) in
-    rw (c .same3 .ensures, incarnation, attempt)
+    simp (c .same3 .ensures, incarnation, attempt)
 
 pub own-write-spec : {M : Type 1} → statement M
 own-write-spec =

@@ -12,7 +12,7 @@ refused-requires c κs = tt
 
 returns : tie.Need-returns
 unfolding storedDecision
-returns c = rw (c .refused .ensures, refuted (c .before .before .is-storing .ensures) (c .before .if1 .taken))
+returns c = simp (c .refused .ensures, refuted (c .before .before .is-storing .ensures) (c .before .if1 .taken))
 
 own-write-requires : tie.Need-own-write-requires
 own-write-requires c κs = tt
@@ -24,7 +24,7 @@ returns-2 : tie.Need-returns-2
 unfolding storedDecision
 returns-2 c =
     let storing = granted (c .before .before .before .before .is-storing .ensures) (c .before .before .before .if1 .left) in
-    rw (c .refused2 .ensures, storing, refuted (c .before .before .own-write .ensures) (c .before .if2 .taken))
+    simp (c .refused2 .ensures, storing, refuted (c .before .before .own-write .ensures) (c .before .if2 .taken))
 
 refused-requires-3 : tie.Need-refused-requires-3
 refused-requires-3 c κs = tt
@@ -34,7 +34,7 @@ unfolding storedDecision
 returns-3 c =
     let storing = granted (c .before .before .before .before .before .is-storing .ensures) (c .before .before .before .before .if1 .left) in
     let own = granted (c .before .before .before .own-write .ensures) (c .before .before .if2 .left) in
-    rw (c .refused3 .ensures, storing, own, c .before .if3 .taken)
+    simp (c .refused3 .ensures, storing, own, c .before .if3 .taken)
 
 stored-counted-requires : tie.Need-stored-counted-requires
 stored-counted-requires c κs = tt
@@ -44,7 +44,7 @@ unfolding storedDecision
 returns-4 c =
     let storing = granted (c .before .before .before .before .before .is-storing .ensures) (c .before .before .before .before .if1 .left) in
     let own = granted (c .before .before .before .own-write .ensures) (c .before .before .if2 .left) in
-    rw (c .stored-counted .ensures, storing, own, c .before .if3 .left)
+    simp (c .stored-counted .ensures, storing, own, c .before .if3 .left)
 
 pub on-stored-spec : {M : Type 1} → statement M
 on-stored-spec =

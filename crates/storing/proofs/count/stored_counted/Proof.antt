@@ -15,7 +15,7 @@ returns : tie.Need-returns
 unfolding storedCountedDecision belowHalfIn
 returns c =
     let few = rw (c .before .before .before .half .ensures) at (lt-ltb _ _ (c .before .if1 .taken)) in
-    rw (c .ok .ensures, few)
+    simp (c .ok .ensures, few)
 
 ok-requires-2 : tie.Need-ok-requires-2
 ok-requires-2 c κs = tt
@@ -24,7 +24,7 @@ returns-2 : tie.Need-returns-2
 unfolding storedCountedDecision belowHalfIn
 returns-2 c =
     let enough = rw (c .before .before .before .before .before .half .ensures) at (le-ltb _ _ (c .before .before .before .if1 .left)) in
-    rw (c .ok2 .ensures, enough)
+    simp (c .ok2 .ensures, enough)
 
 pub stored-counted-spec : {M : Type 1} → statement M
 stored-counted-spec =

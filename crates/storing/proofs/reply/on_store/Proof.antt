@@ -12,7 +12,7 @@ refused-requires c κs = tt
 
 returns : tie.Need-returns
 unfolding storeDecision
-returns c = rw (c .refused .ensures, refuted (c .before .before .is-up .ensures) (c .before .if1 .taken))
+returns c = simp (c .refused .ensures, refuted (c .before .before .is-up .ensures) (c .before .if1 .taken))
 
 store-verdict-requires : tie.Need-store-verdict-requires
 store-verdict-requires c κs = tt
@@ -24,7 +24,7 @@ returns-2 : tie.Need-returns-2
 unfolding storeDecision
 returns-2 c =
     let up = granted (c .before .before .before .before .is-up .ensures) (c .before .before .before .if1 .left) in
-    rw (c .reply-store .ensures, c .before .store-verdict .ensures, up)
+    simp (c .reply-store .ensures, c .before .store-verdict .ensures, up)
 
 pub on-store-spec : {M : Type 1} → statement M
 on-store-spec =
