@@ -4,4 +4,3 @@ pub mod Own
 pub mod Confirming
 pub mod Messages
 pub mod Returns
-pub mod Example

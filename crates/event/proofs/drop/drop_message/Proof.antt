@@ -2,7 +2,7 @@
 use Rattle.event.proofs.Laws.{dropped-none, dropped-some}
 use Rattle.event.specs.Act.{Outcome}
 use denote.Ref.{now}
-use mathlib.Core.Path.{_≡_, sym, ap, _∙_}
+use mathlib.Core.Path.{sym, ap, _∙_}
 use borrow.Author.Needs.{needs}
 use Rattle.event.proofs.drop.drop_message.Statement.{statement}
 use Rattle.event.proofs.drop.drop_message.Tie as tie
