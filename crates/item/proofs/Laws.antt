@@ -38,10 +38,6 @@ pub agree-same : (t u : Tag) → tagsAgree t u ≡ true → t ≡ u
 unfolding tagsAgree
 agree-same t u e = let p : t .0 ≡ u .0 = eqb-true (t .0) (u .0) e in λ k. record { 0 = p k }
 
-pub agree-self : (t : Tag) → tagsAgree t t ≡ true
-unfolding tagsAgree
-agree-self t = eq-eqb (t .0) (t .0) refl
-
 -- incarnations and attempts likewise
 pub same-incarnation : (i j : Incarnation) → sameIncarnation i j ≡ true → i ≡ j
 unfolding sameIncarnation
@@ -87,12 +83,6 @@ pub rank-above-trans : (i j k : Item) → ranksBelow j i ≡ false → ranksBelo
 unfolding ranksBelow
 rank-above-trans i j k p q =
     below-none (k .index) (i .index) (omega (arith, not-below (j .index) (i .index) p, not-below (k .index) (j .index) q))
-
-pub rank-alike : (i j : Item) → ranksBelow i j ≡ false → ranksBelow j i ≡ false → i .index ≡ j .index
-unfolding ranksBelow
-rank-alike i j p q =
-    let e : i .index .0 ≡ j .index .0 = omega (arith, not-below (i .index) (j .index) p, not-below (j .index) (i .index) q) in
-    λ k. record { 0 = e k }
 
 -- an item ranks below another: then not the other way round
 pub rank-one-way : (i j : Item) → ranksBelow i j ≡ true → ranksBelow j i ≡ false

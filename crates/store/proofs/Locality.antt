@@ -242,14 +242,6 @@ pub record Reads (r q : List ℕ) : Type 0 where
 alike-reads : {r q : List ℕ} → Alike r q → Reads r q
 alike-reads a = record { message = alike-read a; rows = alike-rows a }
 
-pub put-reads : (rs : List (List ℕ)) (e : Envelope) (rows : List Item) (i : ℕ) → i ≢ 0
-    → Reads (recordIn (putIn rs e rows) i) (recordIn rs i) ⊎ Reads (recordIn (putIn rs e rows) i) (recordBytes (groupSize rs) 0 e rows)
-put-reads rs e rows i d =
-    ⊎-elim
-    (λ (k : Alike (recordIn (putIn rs e rows) i) (recordIn rs i)). inl (alike-reads k))
-    (λ (k : Holds (groupSize rs) e rows (recordIn (putIn rs e rows) i)). inr (alike-reads k))
-    (put-local rs e rows .each i d)
-
 -- one of the messages that are present
 pub record ReadsOne (n : ℕ) (os : List Outgoing) (rows : List Item) (r : List ℕ) : Type 0 where
   pub outgoing : Outgoing
