@@ -4,7 +4,7 @@ use native.Mathlib.Omega.{arith}
 use mathlib.Core.Path.{_≡_, refl}
 use mathlib.Core.Bool.{Bool, true, false, Bool·beq, false≢true}
 use lib.Dec.{ltb, eqb}
-use borrow.Author.Tests.{ltb-true, ltb-false, lt-ltb, le-ltb, eqb-true, eq-eqb}
+use borrow.Author.Tests.{ltb-true, ltb-false, lt-ltb, le-ltb, eqb-true}
 use Rattle.item.specs.Counter.{indexBelow, indexAtLargest, nextIndex, sameIncarnation, incarnationAtLargest, nextIncarnation, sameAttempt, attemptAtLargest, nextAttempt}
 use Rattle.item.specs.Item.{tagsAgree, ranksBelow, sameItem}
 use Rattle.item.specs.Row.{sameRow}
