@@ -3,7 +3,12 @@
  * The functions stand in libhost_api.a, which `rt staticlib host_api` writes to target/staticlib. They use no heap, keep
  * nothing from one call to the next, and touch only what they are lent. A pointer leads to as many bytes or numbers as
  * the length after it says (to nothing, where the length is 0), and what is written overlaps nothing else that the
- * call is lent. That is all they rely on: whatever bytes and numbers come, they end and answer. */
+ * call is lent. That is all they rely on: whatever bytes and numbers come, they end and answer.
+ *
+ * What a host owes: a host that runs nodes on machines of their own keeps the incarnation that a Start gives where no
+ * rollback reaches it, before the first Fetch goes out, and never lets it fall or uses it twice; runs a node in one copy
+ * at a time; and delivers only messages that a member of the group sent, unchanged. A store is written by nobody else
+ * between two calls. README.md says why. */
 #ifndef YAGVOST_H
 #define YAGVOST_H
 
