@@ -80,3 +80,18 @@ fn a_pause_within_the_script() {
         must_be(&printed.expect("the program reads its input to the end"), &expected);
     }
 }
+
+/// An input or an output that fails is said on standard error, in one line.
+#[test]
+fn failures_are_said() {
+    let directory = File::open(env!("CARGO_MANIFEST_DIR")).expect("this package's directory");
+    let unreadable = Command::new(drill()).stdin(directory).output().expect("the program runs");
+    assert_eq!(unreadable.stderr, b"input failed\n");
+    assert!(unreadable.stdout.is_empty());
+    let script = Path::new(env!("CARGO_TARGET_TMPDIR")).join("failures");
+    fs::write(&script, LINES).expect("a file for the script");
+    let full = File::options().write(true).open("/dev/full").expect("a device that is full");
+    let input = File::open(&script).expect("the file just written");
+    let unwritable = Command::new(drill()).stdin(input).stdout(full).output().expect("the program runs");
+    assert_eq!(unwritable.stderr, b"output failed\n");
+}

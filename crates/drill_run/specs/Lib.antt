@@ -1,2 +1,3 @@
 pub mod Taking
 pub mod Feeds
+pub mod Whole

@@ -27,17 +27,11 @@ start-requires c κs = search needs
 loop-holds : tie.Need-loop-holds Inv-loop μ-loop
 loop-holds c = (length-replicate {A = ℕ} 65288 0, (sym (c .before .before .large-buffer .ensures), sym (c .before .large-buffer2 .ensures)))
 
-slice-aggregate-read : tie.Need-slice-aggregate-read Inv-loop μ-loop
-slice-aggregate-read c = search needs
+slice-aggregate-read-block : tie.Need-slice-aggregate-read-block Inv-loop μ-loop
+slice-aggregate-read-block c = search needs
 
-read-requires : tie.Need-read-requires Inv-loop μ-loop
-read-requires c κs = search needs
-
-slice-aggregate-count : tie.Need-slice-aggregate-count Inv-loop μ-loop
-slice-aggregate-count c = search needs
-
-count-requires : tie.Need-count-requires Inv-loop μ-loop
-count-requires c κs = search needs
+read-block-requires : tie.Need-read-block-requires Inv-loop μ-loop
+read-block-requires c κs = search needs
 
 array-share-prefix-block : tie.Need-array-share-prefix-block Inv-loop μ-loop
 array-share-prefix-block c = search needs
@@ -50,7 +44,7 @@ array-borrow-prefix-room c = search needs
 
 slice-aggregate-take-piece-2 : tie.Need-slice-aggregate-take-piece-2 Inv-loop μ-loop
 slice-aggregate-take-piece-2 c =
-    let l = c .before .before .before .before .before .before .before .before .before .loop in
+    let l = c .before .before .before .before .before .before .before .loop in
     let within : 65280 ≤ length (l .room) = omega (arith, l .inv .0) in
     sym (length-take-le {A = ℕ} 65280 (l .room) within)
 
@@ -68,8 +62,23 @@ loop-less c = omega (arith, c .before .before .before .before .before .before .b
 
 loop-again : tie.Need-loop-again Inv-loop μ-loop
 loop-again c =
-    let l = c .before .before .before .before .before .before .before .before .before .before .before .before .before .loop in
-    (length-front (l .room) (c .before .before .take-piece .last .1 .1 .0) 65280 (c .before .room2 .given) ∙ l .inv .0, (c .before .before .before .before .before .before .before .before .before .block2 .given, c .out2 .given))
+    let l = c .before .before .before .before .before .before .before .before .before .before .before .before .before .loop in (
+      length-front (l .room) (c .before .before .before .before .take-piece .last .1 .1 .0) 65280 (c .before .before .before .room2 .given) ∙ l .inv .0,
+      (c .before .before .before .before .before .before .before .before .before .block2 .given, c .before .before .out2 .given),
+    )
+
+say-failed-requires : tie.Need-say-failed-requires Inv-loop μ-loop
+say-failed-requires c κs = search needs
+
+loop-less-2 : tie.Need-loop-less-2 Inv-loop μ-loop
+loop-less-2 c = omega (arith, c .before .before .before .before .before .before .before .before .before .before .before .before .before .loop-test .taken)
+
+loop-again-2 : tie.Need-loop-again-2 Inv-loop μ-loop
+loop-again-2 c =
+    let l = c .before .before .before .before .before .before .before .before .before .before .before .before .before .before .loop in (
+      length-front (l .room) (c .before .before .before .before .before .take-piece .last .1 .1 .0) 65280 (c .before .before .before .before .room2 .given) ∙ l .inv .0,
+      (c .before .before .before .before .before .before .before .before .before .before .block2 .given, c .before .before .before .out2 .given),
+    )
 
 slice-aggregate-finish : tie.Need-slice-aggregate-finish Inv-loop μ-loop
 slice-aggregate-finish c = search needs
@@ -99,10 +108,8 @@ main-spec =
     large-buffer-requires-2
     start-requires
     loop-holds
-    slice-aggregate-read
-    read-requires
-    slice-aggregate-count
-    count-requires
+    slice-aggregate-read-block
+    read-block-requires
     array-share-prefix-block
     slice-aggregate-take-piece
     array-borrow-prefix-room
@@ -112,6 +119,9 @@ main-spec =
     sub-left
     loop-less
     loop-again
+    say-failed-requires
+    loop-less-2
+    loop-again-2
     slice-aggregate-finish
     finish-requires
     array-share-prefix-out
