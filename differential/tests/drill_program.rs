@@ -1,5 +1,5 @@
-//! The drill program, whose loop over the blocks of its input has no contract:
-//! it prints what the baseline prints, however the script comes.
+//! The drill program. No contract speaks of what a read of the operating system
+//! gives: here it prints what the baseline prints, however the script comes.
 
 use std::fs::{self, File};
 use std::path::Path;
@@ -92,6 +92,7 @@ fn failures_are_said() {
     fs::write(&script, LINES).expect("a file for the script");
     let full = File::options().write(true).open("/dev/full").expect("a device that is full");
     let input = File::open(&script).expect("the file just written");
-    let unwritable = Command::new(drill()).stdin(input).stdout(full).output().expect("the program runs");
+    let unwritable =
+        Command::new(drill()).stdin(input).stdout(full).output().expect("the program runs");
     assert_eq!(unwritable.stderr, b"output failed\n");
 }
