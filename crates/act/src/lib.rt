@@ -1,5 +1,7 @@
 // An event at one node by value, with the lent store: everything that decides. Nothing here touches the table: whoever
 // has it reads the node first and puts it back afterwards.
+#![tactic(auto)]
+
 ghost use Rattle.std.specs.Prelude.{◌≡◌};
 ghost use Rattle.event.specs.Act.{handed_back, at_node, on_sound, perform_at};
 

@@ -1,4 +1,6 @@
 // The drill's output lines, printed into a lent slice.
+#![tactic(auto)]
+
 mod refusals;
 
 ghost use Rattle.std.specs.Prelude.{◌+◌, ◌≤◌, ◌≡◌, ◌++◌, length};

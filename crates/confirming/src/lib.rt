@@ -1,4 +1,6 @@
 // The second round: a peer answers Confirm, the writer counts Confirmed.
+#![tactic(auto)]
+
 mod count;
 mod reply;
 mod settle;

@@ -1,4 +1,6 @@
 // Delivery of the message in a record of the store.
+#![tactic(auto)]
+
 ghost use Rattle.std.specs.Prelude.{◌≡◌};
 ghost use Rattle.record.specs.Layout.{record_of, rows_of};
 ghost use Rattle.protocol.specs.Fetching.{on_table};

@@ -1,5 +1,7 @@
 // The drill (document 01, Drill program): reads a script from standard input, and prints the answer of each line to
 // standard output. `drill_state` and `drill_run` say what the lines mean and print; here are the blocks.
+#![tactic(auto)]
+
 ghost use Rattle.std.specs.Prelude.{length};
 ghost use Rattle.io.specs.Counts.{IsPrefixLen};
 ghost use Rattle.drill_run.specs.Whole.{TakenWhole};

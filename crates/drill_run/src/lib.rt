@@ -1,4 +1,6 @@
 // A piece of a script run over lent nodes and store.
+#![tactic(auto)]
+
 mod lines;
 
 ghost use Rattle.std.specs.Prelude.{◌≡◌};

@@ -1,4 +1,6 @@
 // The state of a drill between pieces of its script, and the reader of its lines.
+#![tactic(auto)]
+
 mod line_reader;
 
 ghost use Rattle.std.specs.Prelude.{◌+◌, ◌<◌, ◌≤◌, ◌^◌, ◌≡◌, length, take};

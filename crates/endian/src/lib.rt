@@ -1,4 +1,6 @@
 // Numbers in bytes, little-endian, and zero bytes: read, written, tested.
+#![tactic(auto)]
+
 mod read;
 mod write;
 pub mod zeros;

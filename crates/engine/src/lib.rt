@@ -1,5 +1,7 @@
 // The engine over one node by value: every event, and a message delivered by its kind. A message without rows is decided
 // by the view of its sender, so that a decision moves no rows; a Table by the whole node.
+#![tactic(auto)]
+
 ghost use Rattle.std.specs.Prelude.{◌≡◌};
 ghost use Rattle.protocol.specs.Deliver.{deliver_step};
 ghost use Rattle.engine.specs.Decided.{decided};

@@ -1,4 +1,6 @@
 // One event at one node: what is found, refused, committed, dropped.
+#![tactic(auto)]
+
 mod commit;
 mod drop;
 pub mod inspect;

@@ -1,4 +1,6 @@
 // The round of a start: a peer answers Fetch, the node counts tables and returns.
+#![tactic(auto)]
+
 mod count;
 mod merge;
 mod recover;

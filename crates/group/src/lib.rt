@@ -1,4 +1,6 @@
 // The group: its seven operations over a lent table and a lent message store, of any length and content.
+#![tactic(auto)]
+
 mod preparing;
 
 ghost use Rattle.std.specs.Prelude.{◌≡◌};

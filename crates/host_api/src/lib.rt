@@ -1,5 +1,7 @@
 // What a host in C or Rust calls: a small boundary of numbers and byte slices over the crates below. A slice is handed over
 // as a pointer and a length.
+#![tactic(auto)]
+
 
 ghost use Rattle.std.specs.Prelude.{◌≡◌};
 ghost use Rattle.record_words.specs.Records.{bytes_written, may_read, may_write, numbers_read};

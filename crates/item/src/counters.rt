@@ -18,6 +18,7 @@ impl Index {
     pub const LARGEST: u64 = 18446744073709551615;
 
     // Whether no index is above this one.
+    #[tactic(auto, unfolding(crate::specs::Counter::index_at_largest))]
     pub fn at_largest(self) -> bool
         ensures { result ≡ index_at_largest self }
     {
@@ -25,6 +26,7 @@ impl Index {
     }
 
     // The index one above; the largest stays.
+    #[tactic(auto, unfolding(crate::specs::Counter::next_index, crate::specs::Counter::index_at_largest))]
     pub fn next(self) -> Index
         ensures { result ≡ next_index self }
     {
@@ -39,6 +41,7 @@ impl Incarnation {
     pub const LARGEST: u32 = 4294967295;
 
     // Whether the two are equal.
+    #[tactic(auto, unfolding(crate::specs::Counter::same_incarnation))]
     pub fn same(self, incarnation: Incarnation) -> bool
         ensures { result ≡ same_incarnation self incarnation }
     {
@@ -46,6 +49,7 @@ impl Incarnation {
     }
 
     // Whether no incarnation is above this one.
+    #[tactic(auto, unfolding(crate::specs::Counter::incarnation_at_largest))]
     pub fn at_largest(self) -> bool
         ensures { result ≡ incarnation_at_largest self }
     {
@@ -53,6 +57,7 @@ impl Incarnation {
     }
 
     // The incarnation one above; the largest stays.
+    #[tactic(auto, unfolding(crate::specs::Counter::next_incarnation, crate::specs::Counter::incarnation_at_largest))]
     pub fn next(self) -> Incarnation
         ensures { result ≡ next_incarnation self }
     {
@@ -67,6 +72,7 @@ impl Attempt {
     pub const LARGEST: u32 = 4294967295;
 
     // Whether the two are equal.
+    #[tactic(auto, unfolding(crate::specs::Counter::same_attempt))]
     pub fn same(self, attempt: Attempt) -> bool
         ensures { result ≡ same_attempt self attempt }
     {
@@ -74,6 +80,7 @@ impl Attempt {
     }
 
     // Whether no attempt is above this one.
+    #[tactic(auto, unfolding(crate::specs::Counter::attempt_at_largest))]
     pub fn at_largest(self) -> bool
         ensures { result ≡ attempt_at_largest self }
     {
@@ -81,6 +88,7 @@ impl Attempt {
     }
 
     // The attempt one above; the largest stays.
+    #[tactic(auto, unfolding(crate::specs::Counter::next_attempt, crate::specs::Counter::attempt_at_largest))]
     pub fn next(self) -> Attempt
         ensures { result ≡ next_attempt self }
     {
@@ -92,6 +100,7 @@ impl Attempt {
 }
 
 // Whether one pair of counters is earlier than another: by incarnation, then by attempt.
+#[tactic(auto, unfolding(crate::specs::Counter::earlier))]
 pub fn counters_earlier(
     incarnation: Incarnation,
     attempt: Attempt,

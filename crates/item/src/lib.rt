@@ -1,5 +1,7 @@
 // Tags, items and rows, the counters, the sizes of groups, and every comparison of them that the layers above use: nobody
 // above compares their fields by hand.
+#![tactic(auto)]
+
 mod counters;
 
 ghost use Rattle.std.specs.Prelude.{◌≡◌};
@@ -13,6 +15,7 @@ pub use counters::{Attempt, Incarnation, Index, counters_earlier};
 pub const MAX_NODES: usize = 15;
 
 // Whether a group may have n nodes: n is odd, and from 3 to the most.
+#[tactic(auto, unfolding(crate::specs::Maxima::valid_size))]
 pub fn valid_size(n: usize) -> bool
     ensures { result ≡ valid_size n }
 {
@@ -51,6 +54,7 @@ impl Tag {
     pub const SIZE: usize = 8;
 
     // Whether the two tags are equal.
+    #[tactic(auto, unfolding(crate::specs::Item::tags_agree))]
     fn agrees(self, tag: Tag) -> bool
         ensures { result ≡ tags_agree self tag }
     {
@@ -70,6 +74,7 @@ impl Item {
     }
 
     // Whether this item ranks below the item. Items rank by their index.
+    #[tactic(auto, unfolding(crate::specs::Item::ranks_below, crate::specs::Counter::index_below))]
     pub fn ranks_below(self, item: Item) -> bool
         ensures { result ≡ ranks_below self item }
     {
@@ -77,6 +82,7 @@ impl Item {
     }
 
     // Whether the two items are equal, tags included.
+    #[tactic(auto, unfolding(crate::specs::Item::same_item))]
     pub fn same(self, item: Item) -> bool
         ensures { result ≡ same_item self item }
     {
@@ -101,6 +107,7 @@ impl Row {
     }
 
     // Whether the two rows are equal in every field.
+    #[tactic(auto, unfolding(crate::specs::Row::same_row))]
     pub fn same(self, row: Row) -> bool
         ensures { result ≡ same_row self row }
     {

@@ -1,5 +1,7 @@
 // The six kinds of message that nodes send, what every message bears besides, and in specs/ the rows beside a Table. How
 // they stand in bytes is the crate `record`, what a node does with them the crate `protocol`.
+#![tactic(auto)]
+
 use item::{Attempt, Incarnation, Item};
 
 // A message, with the fields of its kind and no others. `other` is an incarnation that is not the sender's: in

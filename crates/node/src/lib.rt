@@ -1,4 +1,6 @@
 // One node by value: its rows, its peers, its stage, and each kind of change of it. A number past the last row reads as zero.
+#![tactic(auto)]
+
 mod lifecycle;
 mod peers;
 mod rows;

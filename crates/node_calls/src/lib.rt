@@ -1,4 +1,6 @@
 // The operations of one node that no message starts: write, retry, crash, start.
+#![tactic(auto)]
+
 mod requests;
 mod restarting;
 mod retrying;

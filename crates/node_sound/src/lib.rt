@@ -1,4 +1,6 @@
 // Whether a node is sound, as a lent table must have it.
+#![tactic(auto)]
+
 mod fast;
 mod rows;
 

@@ -1,4 +1,6 @@
 // An operation of the group as a line of a drill asks for it, over lent nodes of which the first ones are the group's table.
+#![tactic(auto)]
+
 
 ghost use Rattle.std.specs.Prelude.{◌≡◌};
 ghost use Rattle.script.specs.Operated.{operated_first};

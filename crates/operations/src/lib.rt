@@ -1,5 +1,7 @@
 // The operations over a lent table and message store: in specs/ the definition of each, runs of them, and the claims in
 // document 01's words; in proofs/ that every run is a run of the network (crate `protocol`). There is no code.
+#![tactic(auto)]
+
 ghost use Rattle.operations.specs.Claim.{EveryReturn};
 ghost use Rattle.operations.specs.Refusal.{RefusalsChangeNothing};
 ghost use Rattle.operations.specs.Simulation.{RunsAreNetworkRuns};

@@ -1,4 +1,6 @@
 // What goes out: the messages of an operation, counted and put.
+#![tactic(auto)]
+
 mod outgoing;
 mod put;
 

@@ -1,4 +1,6 @@
 // The tests on a node's phase and stage, by which every decision branches.
+#![tactic(auto)]
+
 mod down;
 mod idle;
 mod stage;

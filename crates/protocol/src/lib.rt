@@ -1,5 +1,7 @@
 // The protocol: the types of a node, its events and answers; in specs/ the definition of every decision of a node and of
 // the network that such nodes make; the theorem on its runs. The crates above decide as these definitions say.
+#![tactic(auto)]
+
 ghost use Rattle.std.specs.Prelude.{◌≡◌};
 ghost use Rattle.protocol.specs.Claim.{EveryNetworkReturn};
 ghost use Rattle.protocol.specs.Network.{NodeRefusals};

@@ -1,5 +1,7 @@
 // One record of the message store: its kinds and layout, what reading and writing give, and the theorems that they undo each
 // other.
+#![tactic(auto)]
+
 pub mod kinds;
 pub mod layout;
 

@@ -1,4 +1,6 @@
 // The message of one record, read at any place of any slice. A record that does not lie whole within the slice is a fault.
+#![tactic(auto)]
+
 pub mod endpoints;
 mod fields;
 mod items;

@@ -1,4 +1,6 @@
 // A record as numbers, for hosts.
+#![tactic(auto)]
+
 mod fields;
 mod put;
 mod rows;

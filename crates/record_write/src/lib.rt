@@ -1,5 +1,7 @@
 // The message of one record, written at any place of any slice. A record that does not lie whole within the slice is not
 // written.
+#![tactic(auto)]
+
 mod bytes;
 mod fields;
 mod rows;

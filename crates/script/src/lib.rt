@@ -1,4 +1,6 @@
 // The drill's script: its input lines read, and what a line asks of the group.
+#![tactic(auto)]
+
 mod buffer;
 mod decimal;
 

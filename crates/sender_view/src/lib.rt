@@ -1,4 +1,6 @@
 // What one sender is to a node, and what a node decides by it.
+#![tactic(auto)]
+
 mod decision;
 mod view;
 

@@ -1,5 +1,7 @@
 // The message store over lent bytes: its sizes, and the types that its definitions in specs/ speak of. The code is in
 // `store_access`, `store_check` and `store_change`, the laws of its chains are in `store_laws`.
+#![tactic(auto)]
+
 pub mod chain;
 
 // The records of a store, the head included.

@@ -1,4 +1,6 @@
 // What changes the store: a message put, a message removed, an empty store set up.
+#![tactic(auto)]
+
 mod putting;
 mod removing;
 mod setting_up;

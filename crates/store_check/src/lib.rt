@@ -1,4 +1,6 @@
 // Whether the store is sound: its head, each chain, and the bytes between.
+#![tactic(auto)]
+
 mod chain;
 
 ghost use Rattle.std.specs.Prelude.{◌≡◌, ◌*◌, length};

@@ -1,4 +1,6 @@
 // The first round: a peer answers Store, the writer counts Stored.
+#![tactic(auto)]
+
 mod count;
 mod reply;
 

@@ -1,4 +1,6 @@
 // The table: a lent slice of nodes. One is read or replaced, all are checked, all are filled; nothing is decided here.
+#![tactic(auto)]
+
 mod check;
 mod fill;
 

@@ -1,5 +1,7 @@
 // Builds stores of a group of 3, damages each in one place, and prints which are sound, with the size of the group and
 // how many records are free. What must come is worked out from document 01, "Message store".
+#![tactic(auto)]
+
 use item::{Attempt, Incarnation, Index, Item, Tag};
 use libc::STDOUT_FILENO;
 use message::{Envelope, Message};

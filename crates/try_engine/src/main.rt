@@ -5,6 +5,8 @@
 //   n, w, c, s: the node is set up, writes tag 65, crashes, or starts
 //   m: what the sender sent in its latest line reaches the node
 //   x: the node's row of node 2 takes index 7 with a tag of its own
+#![tactic(auto)]
+
 use answers::{Reply, print_line};
 use engine::{crash, deliver, fresh_node, start, write};
 use item::{Attempt, Incarnation, Index, Item, Row, Tag};

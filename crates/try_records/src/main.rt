@@ -1,5 +1,7 @@
 // Writes one record of each kind and prints their bytes in hexadecimal, sixteen to a line. In a record every byte of every
 // field differs, so that a field swapped, shifted or turned shows. What must come is worked out from document 01.
+#![tactic(auto)]
+
 use item::{Attempt, Incarnation, Index, Item, Tag};
 use libc::STDOUT_FILENO;
 use message::{Envelope, Message};
