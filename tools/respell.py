@@ -121,6 +121,8 @@ def turned(table, skip, here, code):
         parts = SPLIT.split(piece)
         for i, n in enumerate(parts):
             v = table[n] if n in table and n not in skip else n
+            if i > 1 and parts[i - 1] == "." and parts[i - 2] == "Memᴰ":
+                v = n
             if v.endswith("_lem") and v != n:
                 before, after = "".join(parts[:i]), "".join(parts[i + 1:])
                 given = re.match(r" *= ?", after) and (re.search(r"[{;] *$", before) or re.fullmatch(r" {4,}", before))

@@ -14,7 +14,7 @@ use refusals::refusal_number;
 use script::put_number;
 
 // What an output line says after its count.
-#[derive(Drop)]
+#[derive(Clone, Copy)]
 pub enum Reply {
     Answered(Answer),
     // The input line was not read.
@@ -39,6 +39,7 @@ pub fn print_line(out: &mut [u8], at: usize, count: u64, reply: Reply) -> usize
 }
 
 // Writes the output line at the place, where it fits.
+#[tactic(auto, unfolding(crate::specs::Output::output_line))]
 fn put_line(out: &mut [u8], at: usize, count: u64, reply: Reply) -> usize
     requires { at + line_room ≤ length out.old }
     ensures { Written out.old at (output_line count reply) result out.new }
@@ -50,6 +51,7 @@ fn put_line(out: &mut [u8], at: usize, count: u64, reply: Reply) -> usize
 }
 
 // Writes what the line says after its count.
+#[tactic(auto, unfolding(crate::specs::Output::reply_bytes))]
 fn put_reply(out: &mut [u8], at: usize, reply: Reply) -> usize
     requires { at + 50 ≤ length out.old }
     ensures { Written out.old at (reply_bytes reply) result out.new }
@@ -60,6 +62,7 @@ fn put_reply(out: &mut [u8], at: usize, reply: Reply) -> usize
     }
 }
 
+#[tactic(auto, unfolding(crate::specs::Output::answer_bytes))]
 fn put_answer(out: &mut [u8], at: usize, answer: Answer) -> usize
     requires { at + 50 ≤ length out.old }
     ensures { Written out.old at (answer_bytes answer) result out.new }
@@ -74,6 +77,7 @@ fn put_answer(out: &mut [u8], at: usize, answer: Answer) -> usize
 }
 
 // Writes a word and an item: its index, a space and its tag.
+#[tactic(auto, unfolding(crate::specs::Output::item_bytes))]
 fn put_item(out: &mut [u8], at: usize, word: &[u8], item: Item) -> usize
     requires { at + (length word.now + 41) ≤ length out.old }
     ensures { Written out.old at (word.now ++ item_bytes item) result out.new }
@@ -92,6 +96,7 @@ fn put_value(out: &mut [u8], at: usize, word: &[u8], v: u64) -> usize
     put_number(out, next, v)
 }
 
+#[tactic(auto, unfolding(crate::specs::Output::tag_bytes))]
 fn put_tag(out: &mut [u8], at: usize, tag: Tag) -> usize
     requires { at + 20 ≤ length out.old }
     ensures { Written out.old at (tag_bytes tag) result out.new }

@@ -21,6 +21,7 @@ fn asked_under(peer: Peer, incarnation: Incarnation) -> bool
 
 // Confirmed: refused with 9, with 10 (also where the sender was not asked under this incarnation) or 11; otherwise
 // the sender is counted.
+#[tactic(auto, unfolding(crate::specs::Decisions::confirmed_decision))]
 pub fn on_confirmed(
     view: SenderView,
     incarnation: Incarnation,

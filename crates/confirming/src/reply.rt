@@ -11,6 +11,7 @@ use protocol::{Refusal, Sends};
 use sender_view::{Decision, NodeChange, SenderView, ok, refused};
 
 // Whether the row has this item, stored under these counters.
+#[tactic(auto, unfolding(protocol::specs::Storing::stored_under))]
 fn stored_under(row: Row, incarnation: Incarnation, attempt: Attempt, item: Item) -> bool
     ensures { result ≡ stored_under row incarnation attempt item }
 {
@@ -25,6 +26,7 @@ fn stored_under(row: Row, incarnation: Incarnation, attempt: Attempt, item: Item
 
 // Confirm: refused with 9, or with 10 where the node has started since it stored or the sender's row has something
 // else by now; otherwise Confirmed goes back.
+#[tactic(auto, unfolding(crate::specs::Decisions::confirm_decision))]
 pub fn on_confirm(
     view: SenderView,
     incarnation: Incarnation,

@@ -12,6 +12,7 @@ use protocol::{Answer, Phase, Sends};
 use sender_view::{Decision, NodeChange, SenderView, ok};
 
 // The sender is counted: at f the write ends.
+#[tactic(auto, unfolding(crate::specs::Decisions::confirmed_counted_decision, sender_view::specs::View::below_half_in))]
 pub fn confirmed_counted(view: SenderView, incarnation: Incarnation) -> Decision
     ensures { result ≡ confirmed_counted_decision view incarnation }
 {
@@ -36,6 +37,7 @@ fn store_success(phase: Phase, item: Item) -> Decision
 }
 
 // Accepted where the node was Returning, otherwise settled.
+#[tactic(auto, unfolding(protocol::specs::Storing::end_answer))]
 fn end_answer(phase: Phase, item: Item) -> Answer
     ensures { result ≡ end_answer phase item }
 {

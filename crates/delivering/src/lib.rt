@@ -32,6 +32,7 @@ fn deliver_table(
 
 // Delivery of the message `reading` in record `r`, where so many records are free. Only the rows of a Table are read from
 // the record.
+#[tactic(auto, unfolding(engine::specs::Decided::decided_step, protocol::specs::Deliver::deliver_step))]
 pub fn deliver_message(
     s: &mut [u8],
     node: Node,

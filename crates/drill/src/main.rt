@@ -14,7 +14,7 @@ use libc::{STDERR_FILENO, STDIN_FILENO, STDOUT_FILENO};
 const TRIES: u64 = 16;
 
 // Where the drill stands after a piece, and whether all that it printed could be written.
-#[derive(Drop)]
+#[derive(Clone, Copy)]
 struct Taken {
     progress: Progress,
     written: bool,

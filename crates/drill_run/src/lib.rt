@@ -17,6 +17,7 @@ use protocol::Node;
 pub const STORE_ROOM: usize = store::LENGTH + 8;
 
 // How far the piece was taken, and where the drill stands then.
+#[tactic(auto, unfolding(crate::specs::Feeds::fed_from))]
 fn fed(position: Position, nodes: [Node; Node::MAX_NODES]) -> Fed
     ensures { result ≡ fed_from position nodes }
 {

@@ -17,14 +17,14 @@ use script::LineBuffer;
 
 // A drill between two lines: how many nodes its group has, 0 while no group stands, and the nodes held, of which the
 // first ones are the group's table. The store is lent beside it.
-#[derive(Drop)]
+#[derive(Clone, Copy)]
 pub struct Drill {
     pub n: u64,
     pub nodes: [Node; Node::MAX_NODES],
 }
 
 // What a line prints after its count, and the drill afterwards.
-#[derive(Drop)]
+#[derive(Clone, Copy)]
 pub struct Turn {
     pub reply: Reply,
     pub drill: Drill,
@@ -32,6 +32,7 @@ pub struct Turn {
 
 impl Drill {
     // As a drill begins: no group stands.
+    #[tactic(auto, unfolding(crate::specs::Turn::no_group, protocol::specs::Table::no_node))]
     pub fn none() -> Drill
         ensures { result ≡ no_group }
     {
@@ -44,7 +45,7 @@ impl Drill {
 }
 
 // A drill in its script: how many lines have ended, and what has come of the next one.
-#[derive(Drop)]
+#[derive(Clone, Copy)]
 pub struct Progress {
     pub count: u64,
     pub pending: LineBuffer,
@@ -52,7 +53,7 @@ pub struct Progress {
 }
 
 // How far a piece of the script was taken, how many bytes were printed for it, and where the drill stands then.
-#[derive(Drop)]
+#[derive(Clone, Copy)]
 pub struct Fed {
     pub next: usize,
     pub at: usize,
@@ -61,6 +62,7 @@ pub struct Fed {
 
 impl Progress {
     // The beginning of a script.
+    #[tactic(auto, unfolding(crate::specs::Feeding::at_start))]
     pub fn start() -> Progress
         ensures { result ≡ at_start }
     {
@@ -73,6 +75,7 @@ impl Progress {
 }
 
 // The end of the script: an unended last line prints `unread`. Gives how many bytes were printed.
+#[tactic(auto, unfolding(crate::specs::Drill::last_output))]
 pub fn finish(last: Progress, out: &mut [u8]) -> usize
     ensures upper_bound { result ≤ length out.new }
     ensures out_after { last.count + 1 < 2 ^ 64 → (line_room ≤ length out.old → take result out.new ≡ last_output last.count last.pending.len) }

@@ -14,7 +14,7 @@ use script::{Asked, Line, LineBuffer, read_buffer};
 // Where a drill stands in a piece of its script: what was taken of the piece, how many bytes were printed for it, how
 // many lines have ended, what has come of the next one, and how many nodes the group has. Where the last line ended asks
 // something of the group, its answer is not printed yet.
-#[derive(Drop)]
+#[derive(Clone, Copy)]
 pub struct Position {
     pub next: usize,
     pub at: usize,
@@ -39,6 +39,7 @@ fn size_after(n: u64, before: u64, answer: Answer) -> u64
 }
 
 // How many nodes the group has after what is asked was answered so.
+#[tactic(auto, unfolding(crate::specs::Position::size_then))]
 fn size_then(asked: Asked, before: u64, answer: Answer) -> u64
     ensures { result ≡ size_then asked before answer }
 {
@@ -49,6 +50,7 @@ fn size_then(asked: Asked, before: u64, answer: Answer) -> u64
 }
 
 // The line as it is taken where the group has n nodes: before the first accepted `n`, where n is 0, an event is unread.
+#[tactic(auto, unfolding(crate::specs::Turn::line_for))]
 fn line_for(n: u64, line: Line) -> Line
     ensures { result ≡ line_for n line }
 {
@@ -76,6 +78,7 @@ fn is_asked(line: Line) -> bool
 }
 
 // What the line asks of a group of n.
+#[tactic(auto, unfolding(crate::specs::Position::asked_by))]
 fn asked_by(n: u64, line: Line) -> Asked
     ensures { result ≡ asked_by n line }
 {
@@ -110,6 +113,7 @@ fn has_room(len: usize, at: usize) -> bool
 }
 
 // Every line ended was answered.
+#[tactic(auto, unfolding(crate::specs::Position::resting_at))]
 fn resting(next: usize, at: usize, count: u64, pending: LineBuffer, n: u64) -> Position
     ensures { result ≡ resting_at next at count pending n }
 {
@@ -125,6 +129,7 @@ fn resting(next: usize, at: usize, count: u64, pending: LineBuffer, n: u64) -> P
 }
 
 // The last line ended asks this.
+#[tactic(auto, unfolding(crate::specs::Position::asking_at))]
 fn asking(next: usize, at: usize, count: u64, n: u64, asked: Asked) -> Position
     ensures { result ≡ asking_at next at count n asked }
 {
@@ -141,6 +146,7 @@ fn asking(next: usize, at: usize, count: u64, n: u64, asked: Asked) -> Position
 
 // Reads on up to the end of a line that asks something; a line that is unread is answered at once. It stops before a
 // line feed where `out` has no room for another line, and where no count is left.
+#[tactic(auto, unfolding(crate::specs::Position::nothing_asked, crate::specs::Position::asking_at, crate::specs::Position::resting_at))]
 fn read_on(piece: &[u8], from: Position, out: &mut [u8]) -> Position
     ensures { Reads piece.now out.old (nothing_asked from) out.new result }
 {
@@ -175,6 +181,7 @@ fn read_on(piece: &[u8], from: Position, out: &mut [u8]) -> Position
 }
 
 // Begins a piece: reads up to the first line that asks something.
+#[tactic(auto, unfolding(crate::specs::Position::resting_at))]
 pub fn first_line(piece: &[u8], start: Progress, out: &mut [u8]) -> Position
     ensures { ((store : List ℕ) → Reached piece.now start store out.new result start.drill.nodes store) × Onward piece.now 0 out.new result }
 {
@@ -187,6 +194,7 @@ pub fn first_line(piece: &[u8], start: Progress, out: &mut [u8]) -> Position
 }
 
 // Prints the answer of what was asked, and reads up to the next line that asks something.
+#[tactic(auto, unfolding(crate::specs::Position::resting_at))]
 pub fn next_line(piece: &[u8], position: Position, answer: Answer, out: &mut [u8]) -> Position
     ensures { Answers piece.now out.old position answer out.new result }
 {

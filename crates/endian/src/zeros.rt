@@ -3,6 +3,7 @@ ghost use Rattle.std.specs.Prelude.{◌≡◌, length};
 ghost use Rattle.endian.specs.Zero.{zeros, all_zero};
 
 // Whether every byte is 0. All are compared, by one branch-free loop, which the compiler vectorises.
+#[tactic(auto, unfolding(crate::specs::Zero::all_zero))]
 pub fn is_zero(s: &[u8]) -> bool
     ensures { result ≡ all_zero s.now }
 {
@@ -16,6 +17,7 @@ pub fn is_zero(s: &[u8]) -> bool
 }
 
 // Every byte becomes 0.
+#[tactic(auto, unfolding(crate::specs::Zero::zeros))]
 pub fn clear(s: &mut [u8])
     ensures { s.new ≡ zeros (length s.old) }
 {

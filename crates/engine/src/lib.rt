@@ -19,13 +19,14 @@ use storing::{on_store, on_stored};
 
 // What is decided of a message: a decision by the view of its sender, or that it is a Table with this other incarnation,
 // which the whole node decides.
-#[derive(Drop)]
+#[derive(Clone, Copy)]
 pub enum Decided {
     Change(Decision),
     Table(Incarnation),
 }
 
 // What is decided of a message of the sender with this view.
+#[tactic(auto, unfolding(crate::specs::Decided::decided))]
 pub fn decide(view: SenderView, incarnation: Incarnation, message: Message) -> Decided
     ensures { result ≡ decided view incarnation message }
 {
@@ -54,6 +55,7 @@ pub fn decide(view: SenderView, incarnation: Incarnation, message: Message) -> D
 }
 
 // What the node makes of a message. `items` are the rows of a Table; the other kinds do not look at them.
+#[tactic(auto, unfolding(crate::specs::Decided::decided_step, protocol::specs::Deliver::deliver_step))]
 pub fn deliver(node: Node, envelope: Envelope, items: [Item; Node::MAX_ROWS]) -> Step
     ensures { result ≡ deliver_step node envelope items }
 {

@@ -47,6 +47,7 @@ pub fn carry_out(s: &mut [u8], node: Node, free: usize, back: usize, step: Step)
 }
 
 // The decision of a node on a message of this sender, carried out.
+#[tactic(auto, unfolding(sender_view::specs::Decision::step_by))]
 pub fn carry_decision(
     s: &mut [u8],
     node: Node,

@@ -7,6 +7,7 @@ use message::Reading;
 use protocol::Event;
 
 // The addressee of a message; 0 where there is none.
+#[tactic(auto, unfolding(crate::specs::Act::addressee_of))]
 fn addressee(reading: Reading) -> usize
     ensures { result ≡ addressee_of reading }
 {
@@ -17,6 +18,7 @@ fn addressee(reading: Reading) -> usize
 }
 
 // Whose event it is: the node number given, or the addressee of the message.
+#[tactic(auto, unfolding(crate::specs::Act::place_of))]
 fn place(event: Event, reading: Reading) -> usize
     ensures { result ≡ place_of event reading }
 {
@@ -41,6 +43,7 @@ fn no_drop() -> DropTarget
 }
 
 // Which record the event drops.
+#[tactic(auto, unfolding(crate::specs::Act::drop_target_of))]
 pub fn drop_target(event: Event) -> DropTarget
     ensures { result ≡ drop_target_of event }
 {
@@ -58,6 +61,7 @@ pub fn drop_target(event: Event) -> DropTarget
 }
 
 // The message in the event's record; none where it names no record.
+#[tactic(auto, unfolding(crate::specs::Act::reading_of))]
 pub fn read(s: &[u8], event: Event) -> Reading
     ensures { result ≡ reading_of event s.now }
 {
@@ -72,6 +76,7 @@ pub fn read(s: &[u8], event: Event) -> Reading
 }
 
 // What is seen of store and event, where `reading` is the message in the event's record.
+#[tactic(auto, unfolding(crate::specs::Act::inspection_of))]
 pub fn inspect(s: &[u8], event: Event, reading: Reading) -> Inspection
     ensures { result ≡ inspection_of event s.now reading }
 {

@@ -15,7 +15,7 @@ pub use precheck::first_verdict;
 use protocol::{Answer, Node, Refusal};
 
 // What is seen of store and event before the table is read.
-#[derive(Drop)]
+#[derive(Clone, Copy)]
 pub struct Inspection {
     // Whether the store is sound; of one that is not, the other numbers are 0.
     pub sound: bool,
@@ -28,7 +28,7 @@ pub struct Inspection {
 }
 
 // Which record an event drops.
-#[derive(Drop)]
+#[derive(Clone, Copy)]
 pub struct DropTarget {
     // Whether it is a Drop; of one that is not, the number is 0.
     pub drops: bool,
@@ -36,7 +36,7 @@ pub struct DropTarget {
 }
 
 // The answer, and the node afterwards.
-#[derive(Drop)]
+#[derive(Clone, Copy)]
 pub struct NodeResult {
     pub answer: Answer,
     pub node: Node,

@@ -11,6 +11,7 @@ use phase::is_fetching;
 use protocol::{Node, Refusal, Step};
 
 // Table: refused with 9, 10 or 11; otherwise the sender's table is counted.
+#[tactic(auto, unfolding(protocol::specs::Fetching::on_table))]
 pub fn on_table(
     node: Node,
     sender: usize,
@@ -34,6 +35,7 @@ pub fn on_table(
 }
 
 // The table of this sender is counted, and every row merged with its item.
+#[tactic(auto, unfolding(protocol::specs::Fetching::with_table))]
 fn with_table(
     node: Node,
     sender: usize,
@@ -48,6 +50,7 @@ fn with_table(
 }
 
 // Whether no table is counted yet.
+#[tactic(auto, unfolding(protocol::specs::Fetching::none_counted))]
 fn none_counted(node: Node) -> bool
     ensures { result ≡ none_counted node }
 {

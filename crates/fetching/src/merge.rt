@@ -7,6 +7,7 @@ use protocol::Node;
 
 // A row after one more table with this item for it. The first table's item is taken whatever the row is; later a
 // greater index is taken, unmarked, a lower one changes nothing, and an equal one with another tag marks the row.
+#[tactic(auto, unfolding(protocol::specs::Merge::merge_row))]
 pub fn merge_row(first: bool, row: Row, item: Item) -> Row
     ensures { result ≡ merge_row first row item }
 {
@@ -38,6 +39,7 @@ pub fn merge_row(first: bool, row: Row, item: Item) -> Row
 }
 
 // Every row after one more table, whose items are in the order of the rows.
+#[tactic(auto, unfolding(crate::proofs::Merged::merged_to))]
 pub fn merge_rows(
     first: bool,
     rows: [Row; Node::MAX_ROWS],

@@ -10,6 +10,7 @@ use node_calls::{ok, send_store};
 use protocol::{Answer, Node, Phase, Sends, Stage, Step};
 
 // What a node does that has counted one more table: nothing before f + 1.
+#[tactic(auto, unfolding(protocol::specs::Fetching::table_counted))]
 pub fn table_counted(node: Node) -> Step
     ensures { result ≡ table_counted node }
 {
@@ -21,6 +22,7 @@ pub fn table_counted(node: Node) -> Step
 }
 
 // What a node that counts f + 1 tables does: it stops, or it sends the item that it writes back to every other node.
+#[tactic(auto, unfolding(protocol::specs::Fetching::node_recover))]
 fn node_recover(node: Node) -> Step
     ensures { result ≡ node_recover node }
 {
@@ -31,6 +33,7 @@ fn node_recover(node: Node) -> Step
 }
 
 // Whether some row's greatest index has come with two tags.
+#[tactic(auto, unfolding(protocol::specs::Fetching::has_conflict))]
 fn has_conflict(node: Node) -> bool
     ensures { result ≡ has_conflict node }
 {
@@ -39,6 +42,7 @@ fn has_conflict(node: Node) -> bool
 }
 
 // The return ends at the lowest marked row, and the node is Down.
+#[tactic(auto, unfolding(protocol::specs::Fetching::stopped))]
 fn stopped(node: Node) -> Step
     ensures { result ≡ definition.stopped node }
 {
@@ -51,6 +55,7 @@ fn stopped(node: Node) -> Step
 }
 
 // Returning: the node writes back its own item under attempt 1.
+#[tactic(auto, unfolding(protocol::specs::Fetching::written_back))]
 fn written_back(node: Node) -> Node
     ensures { result ≡ written_back node }
 {

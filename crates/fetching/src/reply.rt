@@ -9,6 +9,7 @@ use protocol::{Refusal, Sends};
 use sender_view::{Decision, NodeChange, SenderView, ok, refused};
 
 // Fetch: refused with 9 unless the node is Up; otherwise its rows go back in a Table.
+#[tactic(auto, unfolding(crate::specs::Decisions::fetch_decision))]
 pub fn on_fetch(view: SenderView, incarnation: Incarnation) -> Decision
     ensures { result ≡ fetch_decision view incarnation }
 {

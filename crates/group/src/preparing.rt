@@ -6,7 +6,7 @@ ghost use Rattle.group.specs.SetUp.{not_prepared, prepared, prepared_store};
 use protocol::{Answer, Node, Refusal};
 
 // What set-up answers, and how many nodes it sets up: all of the group, or none where it is refused.
-#[derive(Drop)]
+#[derive(Clone, Copy)]
 struct Prepared {
     answer: Answer,
     fresh: usize,

@@ -2,7 +2,6 @@
 // as a pointer and a length.
 #![tactic(auto)]
 
-
 ghost use Rattle.std.specs.Prelude.{◌≡◌};
 ghost use Rattle.record_words.specs.Records.{bytes_written, may_read, may_write, numbers_read};
 ghost use Rattle.run_script.specs.Script.{ScriptRun};

@@ -3,15 +3,15 @@ ghost use Rattle.std.specs.Prelude.{◌≡◌};
 ghost use Rattle.item.specs.Counter.{index_at_largest, next_index, same_incarnation, incarnation_at_largest, next_incarnation, same_attempt, attempt_at_largest, next_attempt, earlier};
 
 // The number of a write. An index, an incarnation and an attempt are separate counters.
-#[derive(Drop)]
+#[derive(Clone, Copy)]
 pub struct Index(pub u64);
 
 // How often a node has started, counted from 1.
-#[derive(Drop)]
+#[derive(Clone, Copy)]
 pub struct Incarnation(pub u32);
 
 // How often a node has sent a write in its present incarnation.
-#[derive(Drop)]
+#[derive(Clone, Copy)]
 pub struct Attempt(pub u32);
 
 impl Index {

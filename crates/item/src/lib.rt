@@ -29,11 +29,11 @@ pub fn valid_size(n: usize) -> bool
 }
 
 // What a write stores beside its index: the caller's digest, never computed with.
-#[derive(Drop)]
+#[derive(Clone, Copy)]
 pub struct Tag(pub u64);
 
 // An item (a term of document 01): an index with a tag.
-#[derive(Drop)]
+#[derive(Clone, Copy)]
 pub struct Item {
     pub index: Index,
     pub tag: Tag,
@@ -41,7 +41,7 @@ pub struct Item {
 
 // A row (a term of document 01): an item with the writer's incarnation and attempt that last stored it, and whether
 // its greatest index has come with two tags.
-#[derive(Drop)]
+#[derive(Clone, Copy)]
 pub struct Row {
     pub item: Item,
     pub incarnation: Incarnation,

@@ -2,7 +2,6 @@
 // exactly. Each law is a statement of specs/ and the contract of a function that does nothing; the proofs are in proofs/.
 #![tactic(auto)]
 
-
 ghost use Rattle.laws_enabled.specs.Laws.{SetUpActs, WriteActs, RetryActs, CrashActs, StartActs, DropActs, DeliverActs};
 
 // Set up acts exactly on a valid n, a table of n nodes and a store of the right length.

@@ -2,7 +2,6 @@
 // Each law is a statement of specs/ and the contract of a function that does nothing; the proofs are in proofs/.
 #![tactic(auto)]
 
-
 ghost use Rattle.laws_inboxes.specs.Laws.{SetUpEmpties, HoldsAfterCall, RecordsCounted};
 
 // After set-up every inbox is empty and every record from 1 is free, in order.

@@ -36,7 +36,7 @@ stays rs e rows g d r c h =
 pub puts : (os : List Outgoing) (rs : List (List ℕ)) (rows : List Item) → Sound rs → AllForGroup (group_size rs) os rows → count_outgoing os ≤ free_count rs
     → Puts rs (put_each rs os rows) os
 unfolding put_each count_outgoing AllForGroup
-puts [] rs rows g fit h = record { old = λ r e z. z; new = λ o m p. absurd (Memᴰ.not_nil m); fewer = omega arith }
+puts [] rs rows g fit h = record { old = λ r e z. z; new = λ o m p. absurd (Memᴰ.not-nil m); fewer = omega arith }
 puts (o ∷ os) rs rows g fit h = step (λ rs' g' fit' h'. puts os rs' rows g' fit' h') o.present refl h
   where
     step : ((rs' : List (List ℕ)) → Sound rs' → AllForGroup (group_size rs') os rows → count_outgoing os ≤ free_count rs' → Puts rs' (put_each rs' os rows) os)

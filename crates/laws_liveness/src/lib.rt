@@ -2,7 +2,6 @@
 // are Up, it is settled. Each law is a statement of specs/ and the contract of a function that does nothing.
 #![tactic(auto)]
 
-
 ghost use Rattle.laws_liveness.specs.Laws.{WriteGetsThrough, FirstWriteGetsThrough, RetryGetsThrough};
 
 // From a sound table and store in which a write has just begun and its Stores stand in the inboxes of f peers.

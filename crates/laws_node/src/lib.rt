@@ -2,7 +2,6 @@
 // function that does nothing. The definitions are in specs/, the proofs in proofs/; there is no code.
 #![tactic(auto)]
 
-
 ghost use Rattle.laws_node.specs.Laws.{
   RefusedGivesBack,
   OthersLeftAlone,

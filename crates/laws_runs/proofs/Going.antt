@@ -80,7 +80,7 @@ module _ (n k back : ℕ) (node : Node) (e : sound_node n k node ≡ true) (s : 
 
   going_from : (at count : ℕ) (o : Outgoing) → Memᴰ o (outgoing_from node s back at count) → o.present ≡ true → Going n k o.envelope
   unfolding outgoing_from
-  going_from at zero o m p = absurd (Memᴰ.not_nil m)
+  going_from at zero o m p = absurd (Memᴰ.not-nil m)
   going_from at (suc count) o m p = go (going_from (suc at) count o) (Memᴰ.cases_cons m)
     where
       go : (Memᴰ o (outgoing_from node s back (suc at) count) → o.present ≡ true → Going n k o.envelope)

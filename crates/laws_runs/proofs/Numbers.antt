@@ -39,7 +39,7 @@ all_above (k ∷ l) = leb 4 k && all_above l
 
 above : (numbers : List ℕ) → all_above numbers ≡ true → (k : ℕ) → Memᴰ k numbers → 4 ≤ k
 unfolding all_above
-above [] e k m = absurd (Memᴰ.not_nil m)
+above [] e k m = absurd (Memᴰ.not-nil m)
 above (j ∷ l) e k m = go (above l (and_right (leb 4 j) (all_above l) e) k) (Memᴰ.cases_cons m)
   where
     go : (Memᴰ k l → 4 ≤ k) → (k ≡ j) ⊎ Memᴰ k l → 4 ≤ k

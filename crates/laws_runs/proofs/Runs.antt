@@ -127,7 +127,7 @@ module _ (n : ℕ) where
   never : (events : List Event) → TagsFit events → (table : List Node) (store : List ℕ) → SoundGroup n table store → (call : Call)
       → Memᴰ call (calls table store events) → (why : Refusal) → call.answer ≡ answer.Refused why → 4 ≤ refusal_number why
   unfolding calls call_of TagsFit
-  never [] t table store G call m = absurd (Memᴰ.not_nil m)
+  never [] t table store G call m = absurd (Memᴰ.not-nil m)
   never (e ∷ events) t table store G call m =
       go
       (never events t.1 (perform e table store).table (perform e table store).store (performs n table store G e t.0) call)

@@ -2,7 +2,6 @@
 // a node's own item. Each law is a statement of specs/ and the contract of a function that does nothing; there is no code.
 #![tactic(auto)]
 
-
 ghost use Rattle.laws_runs.specs.Along.{OwnAlong, LastNeverFalls, SettledWasWritten};
 ghost use Rattle.laws_runs.specs.Laws.{SetUpIsSound, SoundStaysSound, RunsStaySound, NeverUnsound};
 

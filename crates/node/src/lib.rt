@@ -17,6 +17,7 @@ pub use rows::{with_counted, with_row, with_rows};
 pub use stage::{confirming_begun, storing_begun, write_ended};
 
 // The row of node i; past the last row, the zero row.
+#[tactic(auto, unfolding(protocol::specs::Node::row_of))]
 fn row_of(node: Node, i: usize) -> Row
     ensures { result ≡ row_of node i }
 {
@@ -27,6 +28,7 @@ fn row_of(node: Node, i: usize) -> Row
 }
 
 // The item in the node's own row.
+#[tactic(auto, unfolding(protocol::specs::Node::own_item))]
 pub fn own_item(node: Node) -> Item
     ensures { result ≡ own_item node }
 {

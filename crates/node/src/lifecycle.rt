@@ -6,6 +6,7 @@ use item::{Attempt, Incarnation, Row};
 use protocol::{Node, Peer, Phase, Stage};
 
 // Down; only number, n and incarnation remain.
+#[tactic(auto, unfolding(protocol::specs::Node::crashed))]
 pub fn crashed(node: Node) -> Node
     ensures { result ≡ crashedNode node }
 {
@@ -14,6 +15,7 @@ pub fn crashed(node: Node) -> Node
 }
 
 // Fetching in the next incarnation, and nothing is known yet.
+#[tactic(auto, unfolding(protocol::specs::Node::started))]
 pub fn started(node: Node) -> Node
     ensures { result ≡ startedNode node }
 {
@@ -33,6 +35,7 @@ pub fn started(node: Node) -> Node
 }
 
 // A node as Set up leaves it: Up and Idle, incarnation 1, all else zero.
+#[tactic(auto, unfolding(protocol::specs::Node::fresh_node, protocol::specs::Node::write_ended, protocol::specs::Node::blank_node))]
 pub fn fresh_node(number: usize, n: usize) -> Node
     ensures { result ≡ fresh_node number n }
 {

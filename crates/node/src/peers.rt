@@ -7,6 +7,7 @@ ghost use Rattle.protocol.specs.Storing.{is_counted};
 use protocol::{Node, Peer};
 
 // f, of a group of n = 2f + 1.
+#[tactic(auto, unfolding(protocol::specs::Node::half))]
 pub fn half(n: usize) -> usize
     ensures { result ≡ f n }
 {
@@ -14,6 +15,7 @@ pub fn half(n: usize) -> usize
 }
 
 // The peer of this number, of those counted or of those asked; past the last, one that is neither.
+#[tactic(auto, unfolding(protocol::specs::Node::peer_of))]
 pub fn peer_of(peers: [Peer; Node::MAX_ROWS], number: usize) -> Peer
     ensures { result ≡ peer_of peers number }
 {
@@ -39,6 +41,7 @@ pub fn count_peers(peers: [Peer; Node::MAX_ROWS]) -> usize
 }
 
 // Whether the sender is counted.
+#[tactic(auto, unfolding(protocol::specs::Storing::is_counted))]
 pub fn is_counted(node: Node, sender: usize) -> bool
     ensures { result ≡ is_counted node sender }
 {

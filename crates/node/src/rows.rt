@@ -7,6 +7,7 @@ use item::{Incarnation, Row};
 use protocol::{Node, Peer};
 
 // One row is replaced; past the last row nothing is.
+#[tactic(auto, unfolding(protocol::specs::Node::with_row))]
 pub fn with_row(node: Node, i: usize, row: Row) -> Node
     ensures { result ≡ with_row node i row }
 {
@@ -19,6 +20,7 @@ pub fn with_row(node: Node, i: usize, row: Row) -> Node
 }
 
 // The sender is counted, under this incarnation; past the last nobody is.
+#[tactic(auto, unfolding(protocol::specs::Node::with_counted))]
 pub fn with_counted(node: Node, sender: usize, incarnation: Incarnation) -> Node
     ensures { result ≡ with_counted node sender incarnation }
 {
@@ -34,6 +36,7 @@ pub fn with_counted(node: Node, sender: usize, incarnation: Incarnation) -> Node
 }
 
 // Every row is replaced.
+#[tactic(auto, unfolding(protocol::specs::Node::with_rows))]
 pub fn with_rows(node: Node, rows: [Row; Node::MAX_ROWS]) -> Node
     ensures { result ≡ with_rows node rows }
 {

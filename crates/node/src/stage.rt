@@ -7,6 +7,7 @@ use item::{Attempt, Item, Row};
 use protocol::{Node, Peer, Phase, Stage};
 
 // A write begins or begins again: the own row takes the item with these counters, and nobody is counted or asked.
+#[tactic(auto, unfolding(protocol::specs::Node::storing_begun, protocol::specs::Node::with_row))]
 pub fn storing_begun(node: Node, phase: Phase, attempt: Attempt, item: Item) -> Node
     ensures { result ≡ storing_begun node phase attempt item }
 {
@@ -34,6 +35,7 @@ pub fn storing_begun(node: Node, phase: Phase, attempt: Attempt, item: Item) -> 
 }
 
 // Those counted are asked, and nobody is counted.
+#[tactic(auto, unfolding(protocol::specs::Node::confirming_begun))]
 pub fn confirming_begun(node: Node, phase: Phase) -> Node
     ensures { result ≡ confirming_begun node phase }
 {
@@ -55,6 +57,7 @@ pub fn confirming_begun(node: Node, phase: Phase) -> Node
 }
 
 // Up and Idle, and nobody is counted or asked.
+#[tactic(auto, unfolding(protocol::specs::Node::write_ended))]
 pub fn write_ended(node: Node) -> Node
     ensures { result ≡ write_ended node }
 {

@@ -7,6 +7,7 @@ use node::own_item;
 use protocol::{Answer, Node, Sends, Step};
 
 // Store goes to every other node, with the attempt and item of the write that has begun.
+#[tactic(auto, unfolding(protocol::specs::Write::send_store, protocol::specs::Answer::ok))]
 pub fn send_store(node: Node) -> Step
     ensures { result ≡ send_store node }
 {
@@ -23,6 +24,7 @@ pub fn send_store(node: Node) -> Step
 }
 
 // Fetch goes to every other node.
+#[tactic(auto, unfolding(protocol::specs::Write::send_fetch, protocol::specs::Answer::ok))]
 pub fn send_fetch(node: Node) -> Step
     ensures { result ≡ send_fetch node }
 {

@@ -9,6 +9,7 @@ use phase::is_down;
 use protocol::{Node, Refusal, Sends, Step};
 
 // Crash: refused with 5; otherwise the node is Down, and only number, n and incarnation remain.
+#[tactic(auto, unfolding(protocol::specs::Write::crash_step))]
 pub fn crash(node: Node) -> Step
     ensures { result ≡ crash_step node }
 {
@@ -21,6 +22,7 @@ pub fn crash(node: Node) -> Step
 }
 
 // Start: refused with 5 or 6; otherwise the node is Fetching in its next incarnation, and Fetch goes to all others.
+#[tactic(auto, unfolding(protocol::specs::Write::start_step))]
 pub fn start(node: Node) -> Step
     ensures { result ≡ start_step node }
 {

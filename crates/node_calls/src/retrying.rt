@@ -9,6 +9,7 @@ use phase::{at_stage, is_down, is_fetching, is_idle};
 use protocol::{Node, Refusal, Stage, Step};
 
 // The node when its write has begun again, with the same item under the next attempt.
+#[tactic(auto, unfolding(protocol::specs::Write::retried))]
 fn retried(node: Node) -> Node
     ensures { result ≡ retriedNode node }
 {
@@ -20,6 +21,7 @@ fn retried(node: Node) -> Node
 }
 
 // Whether the node is Down or Idle.
+#[tactic(auto, unfolding(protocol::specs::Write::nothing_to_retry))]
 fn nothing_to_retry(node: Node) -> bool
     ensures { result ≡ nothing_to_retry node }
 {
@@ -31,6 +33,7 @@ fn nothing_to_retry(node: Node) -> bool
 }
 
 // Retry: refused with 5 or 6; otherwise Fetch goes to all others again, or Store does under the next attempt.
+#[tactic(auto, unfolding(protocol::specs::Write::retry_step))]
 pub fn retry(node: Node) -> Step
     ensures { result ≡ retry_step node }
 {

@@ -5,6 +5,7 @@ ghost use Rattle.protocol.specs.Answer.{ok as okStep, refused as refusedStep};
 use protocol::{Answer, Node, Refusal, Sends, Step};
 
 // A refusal: the node as it was, and nothing sent.
+#[tactic(auto, unfolding(protocol::specs::Answer::refused))]
 pub fn refused(node: Node, why: Refusal) -> Step
     ensures { result ≡ refusedStep node why }
 {
@@ -16,6 +17,7 @@ pub fn refused(node: Node, why: Refusal) -> Step
 }
 
 // The answer "ok", with what is sent.
+#[tactic(auto, unfolding(protocol::specs::Answer::ok))]
 pub fn ok(node: Node, sends: Sends) -> Step
     ensures { result ≡ okStep node sends }
 {

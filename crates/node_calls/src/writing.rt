@@ -10,6 +10,7 @@ use phase::is_up_idle;
 use protocol::{Node, Phase, Refusal, Stage, Step};
 
 // The index one above, with this tag.
+#[tactic(auto, unfolding(protocol::specs::Write::next_item))]
 fn next_item(item: Item, tag: Tag) -> Item
     ensures { result ≡ next_item item tag }
 {
@@ -20,6 +21,7 @@ fn next_item(item: Item, tag: Tag) -> Item
 }
 
 // Whether the own index or the attempt cannot rise.
+#[tactic(auto, unfolding(protocol::specs::Write::write_at_largest))]
 fn write_at_largest(node: Node) -> bool
     ensures { result ≡ write_at_largest node }
 {
@@ -31,6 +33,7 @@ fn write_at_largest(node: Node) -> bool
 }
 
 // The node when its write of the next item has begun.
+#[tactic(auto, unfolding(protocol::specs::Write::written))]
 fn written(node: Node, tag: Tag) -> Node
     ensures { result ≡ writtenNode node tag }
 {
@@ -41,6 +44,7 @@ fn written(node: Node, tag: Tag) -> Node
 }
 
 // Write: refused with 5 or 6; otherwise the next item is under way, and Store goes to all others.
+#[tactic(auto, unfolding(protocol::specs::Write::write_step))]
 pub fn write(node: Node, tag: Tag) -> Step
     ensures { result ≡ write_step node tag }
 {

@@ -8,6 +8,7 @@ use item::{Incarnation, Row};
 use protocol::{Node, Peer};
 
 // Whether no row is marked and nobody is counted or asked.
+#[tactic(auto, unfolding(crate::specs::Rest::at_rest))]
 pub fn is_at_rest(node: Node) -> bool
     ensures { result ≡ at_rest node }
 {
@@ -18,6 +19,7 @@ pub fn is_at_rest(node: Node) -> bool
 }
 
 // Whether no row is marked.
+#[tactic(auto, unfolding(protocol::specs::Sound::every_from, crate::specs::Rest::unmarked))]
 fn no_marks(rows: [Row; Node::MAX_ROWS]) -> bool
     ensures { result ≡ every_from unmarked 0 rows }
 {
@@ -32,6 +34,7 @@ fn no_marks(rows: [Row; Node::MAX_ROWS]) -> bool
 }
 
 // Whether nobody is among these peers.
+#[tactic(auto, unfolding(protocol::specs::Sound::every_from))]
 fn no_peers(peers: [Peer; Node::MAX_ROWS]) -> bool
     ensures { result ≡ every_from absent 0 peers }
 {
@@ -46,6 +49,7 @@ fn no_peers(peers: [Peer; Node::MAX_ROWS]) -> bool
 }
 
 // Whether peer k is neither counted nor asked, and nothing is kept of it.
+#[tactic(auto, unfolding(crate::specs::Rest::absent))]
 fn is_absent(k: usize, peer: Peer) -> bool
     ensures { result ≡ absent k peer }
 {
@@ -54,6 +58,7 @@ fn is_absent(k: usize, peer: Peer) -> bool
 
 // Whether the numbers in every row from n on are zero. Marks are not looked at: a node at rest has none. All numbers are
 // joined into one, which is tested once.
+#[tactic(auto, unfolding(protocol::specs::Sound::every_from, crate::specs::Rest::unused_zero))]
 pub fn unused_zero(n: usize, node: Node) -> bool
     ensures { result ≡ unused_zero n node }
 {
@@ -69,6 +74,7 @@ pub fn unused_zero(n: usize, node: Node) -> bool
 }
 
 // The bits that stand in the numbers of row k, and none if the row is below n: 0 exactly if the row may stand so.
+#[tactic(auto, unfolding(crate::specs::Rest::numbers_zero, item::specs::Item::same_item, item::specs::Item::tags_agree, item::specs::Counter::same_incarnation, item::specs::Counter::same_attempt, crate::specs::Rest::unused_row_zero))]
 fn unused_bits(n: usize, k: usize, row: Row) -> u64
     ensures { eqb result 0 ≡ unused_row_zero n k row }
 {

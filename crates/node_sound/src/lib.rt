@@ -17,6 +17,7 @@ use rows::rows_sound;
 // Whether the node is sound at this place of the table of a group of n. Most nodes are Up, Idle and at rest, and these are
 // judged here, by the numbers in their rows from n on if there are such rows. Whether a node is at rest is asked before
 // anything else is decided: so the compiler reads the node where it stands, and copies none.
+#[tactic(auto, unfolding(protocol::specs::Sound::sound_node))]
 pub fn node_sound(n: usize, place: usize, node: Node) -> bool
     ensures { result ≡ sound_node n place node }
 {
@@ -42,6 +43,7 @@ pub fn node_sound(n: usize, place: usize, node: Node) -> bool
 
 // Whether a node of this number and this n is sound: its fields looked at one after the other. With two calls it stays a
 // function of its own, which is lent the node; in place of one call the compiler would read every field beforehand.
+#[tactic(auto, unfolding(protocol::specs::Sound::sound_node))]
 fn fields_sound(n: usize, place: usize, node: Node) -> bool
     requires { (node.number ≡ place) × (node.n ≡ n) }
     ensures { result ≡ sound_node n place node }
@@ -68,6 +70,7 @@ fn fields_sound(n: usize, place: usize, node: Node) -> bool
 }
 
 // Whether the attempt is zero where the phase has no use for it.
+#[tactic(auto, unfolding(protocol::specs::Sound::attempt_fits))]
 fn attempt_fits(phase: Phase, attempt: Attempt) -> bool
     ensures { result ≡ attempt_fits phase attempt }
 {
@@ -80,6 +83,7 @@ fn attempt_fits(phase: Phase, attempt: Attempt) -> bool
 }
 
 // Whether each of the peers may be counted or asked.
+#[tactic(auto, unfolding(protocol::specs::Sound::peers_sound))]
 fn peers_sound(number: usize, n: usize, peers: [Peer; Node::MAX_ROWS]) -> bool
     ensures { result ≡ peers_sound number n peers }
 {
@@ -95,6 +99,7 @@ fn peers_sound(number: usize, n: usize, peers: [Peer; Node::MAX_ROWS]) -> bool
 }
 
 // Whether peer k may be counted or asked by the node of this number, or is noted not to be.
+#[tactic(auto, unfolding(protocol::specs::Sound::peer_sound))]
 fn peer_sound(number: usize, n: usize, k: usize, peer: Peer) -> bool
     ensures { result ≡ peer_sound number n k peer }
 {
@@ -108,6 +113,7 @@ fn peer_sound(number: usize, n: usize, k: usize, peer: Peer) -> bool
 }
 
 // Whether so many may be counted and asked in this phase.
+#[tactic(auto, unfolding(protocol::specs::Sound::phase_counts))]
 fn phase_counts(phase: Phase, f: usize, counted: usize, asked: usize) -> bool
     ensures { result ≡ phase_counts phase f counted asked }
 {
@@ -120,6 +126,7 @@ fn phase_counts(phase: Phase, f: usize, counted: usize, asked: usize) -> bool
 }
 
 // Whether so many may be counted and asked in this stage of a write.
+#[tactic(auto, unfolding(protocol::specs::Sound::stage_counts))]
 fn stage_counts(stage: Stage, f: usize, counted: usize, asked: usize) -> bool
     ensures { result ≡ stage_counts stage f counted asked }
 {
@@ -131,6 +138,7 @@ fn stage_counts(stage: Stage, f: usize, counted: usize, asked: usize) -> bool
 }
 
 // Whether everyone counted is asked, in a phase that asks.
+#[tactic(auto, unfolding(protocol::specs::Sound::counted_asked))]
 fn counted_asked(
     phase: Phase,
     counted: [Peer; Node::MAX_ROWS],
@@ -160,6 +168,7 @@ fn all_among_asked(counted: [Peer; Node::MAX_ROWS], asked: [Peer; Node::MAX_ROWS
 }
 
 // Whether peer k is asked, if it is counted.
+#[tactic(auto, unfolding(protocol::specs::Sound::among_asked))]
 fn among_asked(asked: [Peer; Node::MAX_ROWS], k: usize, peer: Peer) -> bool
     ensures { result ≡ among_asked asked k peer }
 {

@@ -8,6 +8,7 @@ use node::count_peers;
 use protocol::{Node, Phase, RowUse};
 
 // Whether a node of a group of n has nothing in its rows but what its phase uses.
+#[tactic(auto, unfolding(protocol::specs::Sound::rows_sound))]
 pub fn rows_sound(n: usize, node: Node) -> bool
     ensures { result ≡ rows_sound n node }
 {
@@ -34,6 +35,7 @@ fn every_row(held: RowUse, n: usize, rows: [Row; Node::MAX_ROWS]) -> bool
 }
 
 // Whether row k fits in a group of n, where rows from n on are unused.
+#[tactic(auto, unfolding(protocol::specs::Sound::row_sound))]
 fn row_sound(held: RowUse, n: usize, k: usize, row: Row) -> bool
     ensures { result ≡ row_sound held n k row }
 {
@@ -44,6 +46,7 @@ fn row_sound(held: RowUse, n: usize, k: usize, row: Row) -> bool
 }
 
 // Whether a row has nothing but what is used of it.
+#[tactic(auto, unfolding(protocol::specs::Sound::row_fits))]
 fn row_fits(held: RowUse, row: Row) -> bool
     ensures { result ≡ row_fits held row }
 {
@@ -60,6 +63,7 @@ fn row_fits(held: RowUse, row: Row) -> bool
 }
 
 // What a node in this phase that counts so many peers uses of its rows.
+#[tactic(auto, unfolding(protocol::specs::Sound::row_use))]
 fn row_use(phase: Phase, counted: usize) -> RowUse
     ensures { result ≡ row_use phase counted }
 {
@@ -72,6 +76,7 @@ fn row_use(phase: Phase, counted: usize) -> RowUse
 }
 
 // What a node Fetching uses of its rows when it counts so many tables.
+#[tactic(auto, unfolding(protocol::specs::Sound::row_use))]
 fn fetching_use(counted: usize) -> RowUse
     ensures { result ≡ row_use Fetching counted }
 {

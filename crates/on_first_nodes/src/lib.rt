@@ -1,7 +1,6 @@
 // An operation of the group as a line of a drill asks for it, over lent nodes of which the first ones are the group's table.
 #![tactic(auto)]
 
-
 ghost use Rattle.std.specs.Prelude.{◌≡◌};
 ghost use Rattle.script.specs.Operated.{operated_first};
 ghost use Rattle.on_first_nodes.specs.Lending.{first_nodes};
@@ -10,6 +9,7 @@ use protocol::{Answer, Node};
 use script::Asked;
 
 // How many nodes are the table of a group of n, where so many are held: all of them, where there are fewer than n.
+#[tactic(auto, unfolding(crate::specs::Lending::first_nodes))]
 fn first_nodes(n: u64, held: usize) -> usize
     ensures { result ≡ first_nodes n held }
 {

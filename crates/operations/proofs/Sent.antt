@@ -42,7 +42,7 @@ module _ (node : Node) (s : Sends) (back : ℕ) (N : NodeFits node) (fit : (k : 
 
   from_fits : (k count : ℕ) (o : Outgoing) → Memᴰ o (outgoing_from node s back k count) → o.present ≡ true → Fits o.envelope
   unfolding outgoing_from
-  from_fits k zero o m e = absurd (Memᴰ.not_nil m)
+  from_fits k zero o m e = absurd (Memᴰ.not-nil m)
   from_fits k (suc count) o m e = go (from_fits (suc k) count o) (Memᴰ.cases_cons m)
     where
       go : (Memᴰ o (outgoing_from node s back (suc k) count) → o.present ≡ true → Fits o.envelope)

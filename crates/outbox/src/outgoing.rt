@@ -29,6 +29,7 @@ fn is_asked(node: Node, k: usize) -> bool
 }
 
 // Whether a message goes to node `k`. `back` is the sender of the message delivered.
+#[tactic(auto, unfolding(protocol::specs::Outgoing::goes_to))]
 fn goes_to(sends: Sends, node: Node, back: usize, k: usize) -> bool
     ensures { result ≡ goes_to sends node back k }
 {
@@ -41,6 +42,7 @@ fn goes_to(sends: Sends, node: Node, back: usize, k: usize) -> bool
 }
 
 // Whether a message goes to node `k`, and the group has this node.
+#[tactic(auto, unfolding(protocol::specs::Outgoing::outgoing_to))]
 pub fn is_sent(node: Node, sends: Sends, back: usize, k: usize) -> bool
     ensures { result ≡ (outgoing_to node sends back k).present }
 {
@@ -64,6 +66,7 @@ fn confirm_to(node: Node, k: usize, attempt: Attempt, item: Item) -> Message
 }
 
 // The message to node `k`.
+#[tactic(auto, unfolding(protocol::specs::Outgoing::message_to))]
 fn message_to(sends: Sends, node: Node, k: usize) -> Message
     ensures { result ≡ message_to sends node k }
 {
@@ -76,6 +79,7 @@ fn message_to(sends: Sends, node: Node, k: usize) -> Message
 }
 
 // What goes to node `k`, if anything.
+#[tactic(auto, unfolding(protocol::specs::Outgoing::outgoing_to))]
 pub fn outgoing_to(node: Node, sends: Sends, back: usize, k: usize) -> Outgoing
     ensures { result ≡ outgoing_to node sends back k }
 {
@@ -103,6 +107,7 @@ fn one_if(present: bool) -> usize
 }
 
 // How many messages are sent.
+#[tactic(auto, unfolding(protocol::specs::Outgoing::outgoing))]
 pub fn count_sent(node: Node, sends: Sends, back: usize) -> usize
     ensures { result ≡ count_outgoing (outgoing node sends back) }
 {

@@ -30,6 +30,7 @@ fn send_to(
 }
 
 // What the node sends, by rising number; a Table bears the items of its rows.
+#[tactic(auto, unfolding(protocol::specs::Outgoing::outgoing))]
 pub fn send_each(s: &mut [u8], node: Node, sends: Sends, back: usize)
     ensures { s.new ≡ on_records (λ rs. put_each rs (outgoing node sends back) (row_items node)) s.old }
 {

@@ -49,6 +49,7 @@ pub fn is_confirming(phase: Phase) -> bool
 }
 
 // The phase with another stage of the write. Down and Fetching have none, and stay.
+#[tactic(auto, unfolding(protocol::specs::Phase::at_stage))]
 pub fn at_stage(phase: Phase, stage: Stage) -> Phase
     ensures { result ≡ at_stage phase stage }
 {

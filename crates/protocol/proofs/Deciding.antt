@@ -189,7 +189,7 @@ within [] long = true
 within (k ∷ l) long = holds k long && within l long
 
 pub widen : (short long : List ℕ) → within short long ≡ true → (k : ℕ) → Memᴰ k short → Memᴰ k long
-widen [] long e k m = absurd (Memᴰ.not_nil m)
+widen [] long e k m = absurd (Memᴰ.not-nil m)
 widen (s ∷ l) long e k (Memᴰ.head p) = Memᴰ.cast p (found long s (and_left (holds s long) (within l long) e))
 widen (s ∷ l) long e k (Memᴰ.tail m) = widen l long (and_right (holds s long) (within l long) e) k m
 

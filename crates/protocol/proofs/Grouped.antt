@@ -146,5 +146,5 @@ set_up_grouped n =
     record {
       count = fresh_length n 0 n;
       placed = λ k h. rw (fresh_at n 0 n k h ∙ ap (λ (i : ℕ). fresh_node i n) (zero-add k)) (fresh_placed n k);
-      addressed = λ l m. absurd (Memᴰ.not_nil m);
+      addressed = λ l m. absurd (Memᴰ.not-nil m);
     }

@@ -21,7 +21,7 @@ use Rattle.protocol.proofs.Deciding.{holds, RefusesBy, of_node, of_message, wide
 
 -- a number that is in a list is found there
 listed : (numbers : List ℕ) (k : ℕ) → Memᴰ k numbers → holds k numbers ≡ true
-listed [] k m = absurd (Memᴰ.not_nil m)
+listed [] k m = absurd (Memᴰ.not-nil m)
 listed (i ∷ l) k (Memᴰ.head p) = rw (eq-eqb k i p) refl
 listed (i ∷ l) k (Memᴰ.tail m) = by_cond (λ (t : Bool). t ≡ true) (eqb k i) _ _ (λ _. refl) (λ _. listed l k m)
 

@@ -30,7 +30,7 @@ module _ (node : Node) where
   pub each_packet : (P : Packet → Type 0) (os : List Outgoing)
       → ((o : Outgoing) → Memᴰ o os → o.present ≡ true → P (packet_of node o.envelope)) → (l : Packet) → Memᴰ l (packets_of node os) → P l
   unfolding packets_of
-  each_packet P [] h l = λ m. absurd (mathlib.Core.List.Memᴰ.not_nil m)
+  each_packet P [] h l = λ m. absurd (mathlib.Core.List.Memᴰ.not-nil m)
   each_packet P (o ∷ os) h l =
       let rest : Memᴰ l (packets_of node os) → P l = each_packet P os (λ p m e. h p (mathlib.Core.List.Memᴰ.tail m) e) l in
       by_cond (λ (ls : List Packet). Memᴰ l ls → P l) o.present _ _ (λ e m. go rest (h o (mathlib.Core.List.Memᴰ.head refl) e) (mathlib.Core.List.Memᴰ.cases_cons m)) (λ e. rest)
@@ -43,7 +43,7 @@ module _ (node : Node) where
   -- and each thing outgoing has its packet
   pub has_packet : (os : List Outgoing) (o : Outgoing) → Memᴰ o os → o.present ≡ true → Memᴰ (packet_of node o.envelope) (packets_of node os)
   unfolding packets_of
-  has_packet [] o m e = absurd (mathlib.Core.List.Memᴰ.not_nil m)
+  has_packet [] o m e = absurd (mathlib.Core.List.Memᴰ.not-nil m)
   has_packet (p ∷ os) o m e = go (mathlib.Core.List.Memᴰ.cases_cons m) (λ k. has_packet os o k e)
     where
       go : (o ≡ p) ⊎ Memᴰ o os → (Memᴰ o os → Memᴰ (packet_of node o.envelope) (packets_of node os))
@@ -93,7 +93,7 @@ append_seen x (l ∷ a) b =
 -- a packet that was sent is seen
 pub packet_seen : (x : ℕ) (ls : List Packet) (l : Packet) → Memᴰ l ls → Each (λ m. Memᴰ m (seen_packets x ls)) (seen_packet x l)
 unfolding seen_packets
-packet_seen x [] l m = absurd (mathlib.Core.List.Memᴰ.not_nil m)
+packet_seen x [] l m = absurd (mathlib.Core.List.Memᴰ.not-nil m)
 packet_seen x (a ∷ ls) l m = go (packet_seen x ls l) (mathlib.Core.List.Memᴰ.cases_cons m)
   where
     go : (Memᴰ l ls → Each (λ v. Memᴰ v (seen_packets x ls)) (seen_packet x l))

@@ -99,7 +99,7 @@ first_known f n x below =
       history = at_set_up;
       invariant = invariant_set_up f x below (λ p. seen x (node_at (fresh_table n) p)) fresh;
       last_is = refl;
-      begun_in = λ i m. absurd (Memᴰ.not_nil m);
+      begun_in = λ i m. absurd (Memᴰ.not-nil m);
     }
   where
     fresh : (p : ℕ) → SetUp (seen x (node_at (fresh_table n) p))

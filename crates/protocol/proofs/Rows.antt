@@ -77,14 +77,14 @@ merged_length first (row ∷ rows) (item ∷ items) = ap suc (merged_length firs
 pub merge_merged : (v : ViewNode) (row : Row) (first : Bool) (r : Item) → v.item ≡ row.item → v.marked ≡ row.marked
     → (first ≡ true → (q : ℕ) → v.counted q ≡ false) → Merged v r (merge_row first row r).item (merge_row first row r).marked
 unfolding merge_row
-merge_merged v row first r same_item_lem same_mark none =
+merge_merged v row first r same same_mark none =
     by_cond P first _ _ (λ e. merged_first v r false (none e))
-    (λ e. by_cond P (ranks_below row.item r) _ _ (λ up. merged_higher v r false (rw same_item_lem up))
-    (λ up. by_cond P (ranks_below r row.item) _ _ (λ low. rw (← same_item_lem, ← same_mark) (merged_lower v r (rw same_item_lem low)))
+    (λ e. by_cond P (ranks_below row.item r) _ _ (λ up. merged_higher v r false (rw same up))
+    (λ up. by_cond P (ranks_below r row.item) _ _ (λ low. rw (← same, ← same_mark) (merged_lower v r (rw same low)))
     (λ low. by_cond P (same_item r row.item) _ _
-    (λ alike. rw (← same_item_lem, ← same_mark) (merged_level v r v.marked (rw same_item_lem up) (rw same_item_lem low) (λ m. m)
-    (λ m. Rattle.item.proofs.Laws.same_item r v.item (rw same_item_lem alike))))
-    (λ alike. rw (← same_item_lem) (merged_level v r true (rw same_item_lem up) (rw same_item_lem low)
+    (λ alike. rw (← same, ← same_mark) (merged_level v r v.marked (rw same up) (rw same low) (λ m. m)
+    (λ m. same_item_lem r v.item (rw same alike))))
+    (λ alike. rw (← same) (merged_level v r true (rw same up) (rw same low)
     (λ m. absurd (false≢true (sym m))) (λ m. absurd (false≢true (sym m))))))))
   where
     P : Row → Type 0

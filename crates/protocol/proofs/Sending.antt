@@ -32,7 +32,7 @@ use Rattle.protocol.proofs.Seen.{seen, stage_in, if_at, seen_as, seen_message, n
 pub outgoing_from_lem : (node : Node) (s : Sends) (back k count : ℕ) (o : Outgoing) → Memᴰ o (outgoing_from node s back k count)
     → (to : ℕ) × (o ≡ outgoing_to node s back to)
 unfolding outgoing_from
-outgoing_from_lem node s back k zero o m = absurd (Memᴰ.not_nil m)
+outgoing_from_lem node s back k zero o m = absurd (Memᴰ.not-nil m)
 outgoing_from_lem node s back k (suc count) o m = go (outgoing_from_lem node s back (suc k) count o) (Memᴰ.cases_cons m)
   where
     go : (Memᴰ o (outgoing_from node s back (suc k) count) → (to : ℕ) × (o ≡ outgoing_to node s back to))

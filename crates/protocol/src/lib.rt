@@ -11,7 +11,7 @@ use item::{Attempt, Incarnation, Item, Row, Tag};
 use message::Message;
 
 // How far the present write has come.
-#[derive(Drop)]
+#[derive(Clone, Copy)]
 pub enum Stage {
     Idle,
     // Store went to all others; fewer than f answered.
@@ -21,7 +21,7 @@ pub enum Stage {
 }
 
 // Where a node stands between a crash and its return.
-#[derive(Drop)]
+#[derive(Clone, Copy)]
 pub enum Phase {
     Down,
     // Started: it collects the tables of f + 1 others.
@@ -32,14 +32,14 @@ pub enum Phase {
 }
 
 // What a node notes of another node that it counts or asks: whether it does, and under which incarnation.
-#[derive(Drop)]
+#[derive(Clone, Copy)]
 pub struct Peer {
     pub present: bool,
     pub incarnation: Incarnation,
 }
 
 // One node of a group. Whatever its phase has no use for is zero.
-#[derive(Drop)]
+#[derive(Clone, Copy)]
 pub struct Node {
     // Its place in the table.
     pub number: usize,
@@ -57,7 +57,7 @@ pub struct Node {
 }
 
 // Why a call is refused. `refusalNumber` gives document 01's number of each.
-#[derive(Drop)]
+#[derive(Clone, Copy)]
 pub enum Refusal {
     // 1: n is not valid, or the table has not n nodes.
     GroupSize,
@@ -88,7 +88,7 @@ pub enum Refusal {
 }
 
 // What a call answers.
-#[derive(Drop)]
+#[derive(Clone, Copy)]
 pub enum Answer {
     Ok,
     // The write of this item is settled.
@@ -101,7 +101,7 @@ pub enum Answer {
 }
 
 // What a decision sends. A Table goes with the rows of the node that sends it.
-#[derive(Drop)]
+#[derive(Clone, Copy)]
 pub enum Sends {
     Nothing,
     // A message to the sender of the one delivered.
@@ -113,14 +113,14 @@ pub enum Sends {
 }
 
 // What a row says to an item that is to be stored in it.
-#[derive(Drop)]
+#[derive(Clone, Copy)]
 pub enum Verdict {
     Take,
     Refuse(Refusal),
 }
 
 // What a node's phase uses of its rows: nothing; items and marks; or items and counters.
-#[derive(Drop)]
+#[derive(Clone, Copy)]
 pub enum RowUse {
     Zero,
     Fetched,
@@ -128,7 +128,7 @@ pub enum RowUse {
 }
 
 // What one node makes of one event: the answer, the node afterwards, and what it sends.
-#[derive(Drop)]
+#[derive(Clone, Copy)]
 pub struct Step {
     pub answer: Answer,
     pub node: Node,
@@ -136,7 +136,7 @@ pub struct Step {
 }
 
 // The events after set-up, with numbers that may be anything.
-#[derive(Drop)]
+#[derive(Clone, Copy)]
 pub enum Event {
     Write { node: u64, tag: Tag },
     Retry { node: u64 },
@@ -165,6 +165,7 @@ impl Node {
     pub const MAX_ROWS: usize = Node::MAX_NODES;
 
     // The blank node, Down: only number, n and incarnation remain.
+    #[tactic(auto, unfolding(crate::specs::Node::blank_node))]
     pub fn blank(number: usize, n: usize, incarnation: Incarnation) -> Node
         ensures { result ≡ blank_node number n incarnation }
     {

@@ -17,7 +17,7 @@ pub const FETCH: u8 = 5;
 pub const TABLE: u8 = 6;
 
 // Every number of a record but next and the rows.
-#[derive(Drop)]
+#[derive(Clone, Copy)]
 pub struct Fields {
     pub kind: u8,
     pub sender: usize,
@@ -29,7 +29,7 @@ pub struct Fields {
 }
 
 // The message that fields say.
-#[derive(Drop)]
+#[derive(Clone, Copy)]
 pub enum Known {
     Known(Message),
     // No kind of this number, or a field that the kind does not use and that is not 0.

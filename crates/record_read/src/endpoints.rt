@@ -7,7 +7,7 @@ ghost use Rattle.record_read.specs.Ends.{ends_of};
 use crate::{fields, validity};
 
 // What reading the ends of a message gives.
-#[derive(Drop)]
+#[derive(Clone, Copy)]
 pub enum Ends {
     Found { sender: usize, addressee: usize },
     // No message: an unknown kind, or an unused byte that is not 0.

@@ -22,6 +22,7 @@ fn byte_at(r: &[u8], at: usize) -> u8
     r[at]
 }
 
+#[tactic(auto, unfolding(record::specs::Layout::item_in))]
 fn read_item(r: &[u8], at: usize) -> Item
     requires { at ≤ record_size }
     ensures { result ≡ item_in r.now at }
@@ -35,6 +36,7 @@ fn read_item(r: &[u8], at: usize) -> Item
 }
 
 // The fields of a record.
+#[tactic(auto, unfolding(record::specs::Layout::fields_in))]
 pub fn read_fields(r: &[u8]) -> Fields
     ensures { result ≡ fields_in r.now }
 {

@@ -8,6 +8,7 @@ use message::Message;
 use record::kinds::{CONFIRM, CONFIRMED, FETCH, Fields, Known, STORE, STORED, TABLE};
 
 // Whether there is neither attempt nor item.
+#[tactic(auto, unfolding(record::specs::Kind::no_write))]
 fn no_write(attempt: Attempt, item: Item) -> bool
     ensures { result ≡ no_write attempt item }
 {
@@ -27,6 +28,7 @@ fn known_if(ok: bool, message: Message) -> Known
 }
 
 // The message that fields say, if its kind is known and what it does not use is 0.
+#[tactic(auto, unfolding(record::specs::Kind::message_of))]
 pub fn message_of(fields: Fields) -> Known
     ensures { result ≡ message_of fields }
 {
@@ -65,6 +67,7 @@ pub fn message_of(fields: Fields) -> Known
 }
 
 // Whether the kind of fields is known and what it does not use is 0: as `message_of`, with no message built.
+#[tactic(auto, unfolding(crate::specs::Known::is_known, record::specs::Kind::message_of))]
 pub fn is_known(fields: Fields) -> bool
     ensures { result ≡ is_known (message_of fields) }
 {

@@ -20,6 +20,7 @@ use record::kinds::Known;
 pub use validity::{rows_of_kind, zero_after_rows};
 
 // The message in a record.
+#[tactic(auto, unfolding(record::specs::Record::read_record, record::specs::Record::read_as))]
 fn read_record(r: &[u8], n: usize) -> Reading
     requires { length r.now ≡ record_size }
     ensures { result ≡ read_record n r.now }
@@ -41,6 +42,7 @@ fn read_record(r: &[u8], n: usize) -> Reading
 }
 
 // The message in record `i`, for a group of `n`, or a fault. Sender, addressee and next are not judged.
+#[tactic(auto, unfolding(record::specs::Record::read_record))]
 pub fn read(s: &[u8], i: usize, n: usize) -> Reading
     ensures { result ≡ read_record n (record_of s.now i) }
 {

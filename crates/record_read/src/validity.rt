@@ -12,6 +12,7 @@ use record::kinds::TABLE;
 use record::layout;
 
 // How many rows a record of this kind has in a group of `n`.
+#[tactic(auto, unfolding(crate::specs::Readable::rows_of_kind))]
 pub fn rows_of_kind(kind: u8, n: usize) -> usize
     ensures { result ≡ rows_of_kind kind n }
 {
@@ -44,6 +45,7 @@ fn zero_from_row(r: &[u8], held: usize) -> bool
 }
 
 // Whether every byte after the rows of a record is 0 in a group of `n`; not so in bytes that are not as many as a record has.
+#[tactic(auto, unfolding(crate::specs::Readable::zero_after_kind))]
 pub fn zero_after_rows(r: &[u8], n: usize) -> bool
     ensures { result ≡ zero_after_kind n r.now }
 {

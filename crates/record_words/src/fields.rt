@@ -39,6 +39,7 @@ fn fit(numbers: &[u64]) -> bool
 }
 
 // The fields that numbers say, where they fit.
+#[tactic(auto, unfolding(crate::specs::Numbers::fields_from))]
 fn fitting_fields(numbers: &[u64]) -> Fields
     requires { numbers_fit numbers.now ≡ true }
     ensures { result ≡ fields_from numbers.now }
@@ -58,6 +59,7 @@ fn fitting_fields(numbers: &[u64]) -> Fields
 }
 
 // The fields that numbers say, where they fit; else those that no numbers say, all 0.
+#[tactic(auto, unfolding(crate::specs::Numbers::fields_from))]
 pub fn fields_in(numbers: &[u64]) -> Fields
     ensures { result ≡ cond (numbers_fit numbers.now) (fields_from numbers.now) (fields_from []) }
 {
@@ -90,6 +92,7 @@ fn zero_from(numbers: &[u64], from: usize) -> bool
 }
 
 // Whether numbers are a message in a group of `n`. Its fields are `fields_in`, its rows `rows_in` of `record_words::rows`.
+#[tactic(auto, unfolding(crate::specs::Numbers::stated, crate::specs::Numbers::is_stated))]
 pub fn is_stated(numbers: &[u64], n: usize) -> bool
     ensures { result ≡ is_stated (stated n numbers.now) }
 {

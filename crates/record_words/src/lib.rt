@@ -20,6 +20,7 @@ pub use words::reads_back;
 
 // The numbers of a record that is readable in a group of `n`: its own fields and rows as they stand. If it is no message it
 // gives false and no number has changed.
+#[tactic(auto, unfolding(record::specs::Layout::next_of))]
 fn read_numbers(r: &[u8], n: usize, numbers: &mut [u64]) -> bool
     requires { length numbers.old ≡ number_count }
     ensures { (result ≡ readable n r.now) × (numbers.new ≡ cond (readable n r.now) (record_numbers n r.now) numbers.old) }

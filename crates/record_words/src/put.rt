@@ -9,6 +9,7 @@ use record::kinds::Fields;
 use record::layout;
 
 // The numbers before the rows.
+#[tactic(auto, unfolding(crate::specs::Numbers::field_numbers))]
 fn put_fields(numbers: &mut [u64], next: u64, fields: Fields)
     requires { number_count ≤ length numbers.old }
     ensures { numbers.new ≡ with_part rows_first numbers.old 0 (field_numbers next fields) }
@@ -25,6 +26,7 @@ fn put_fields(numbers: &mut [u64], next: u64, fields: Fields)
 }
 
 // The numbers of the rows, straight from the bytes of a record.
+#[tactic(auto, unfolding(crate::specs::Numbers::row_numbers))]
 fn put_rows(numbers: &mut [u64], r: &[u8])
     requires { number_count ≤ length numbers.old }
     ensures { numbers.new ≡ with_part rows_count numbers.old rows_first (row_numbers (rows_of r.now)) }

@@ -29,6 +29,7 @@ pub fn rows_in(numbers: &[u64]) -> [Item; item::MAX_NODES]
     items
 }
 
+#[tactic(auto, unfolding(crate::specs::Numbers::item_from))]
 fn item_in(numbers: &[u64], at: usize) -> Item
     requires { at ≤ number_count }
     ensures { result ≡ item_from numbers.now at }

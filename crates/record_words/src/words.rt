@@ -11,7 +11,7 @@ pub const COUNT: usize = ROWS_FIRST + 2 * item::MAX_NODES;
 pub const ROWS_FIRST: usize = 9;
 
 // What numbers say.
-#[derive(Drop)]
+#[derive(Clone, Copy)]
 pub enum Stated {
     // A message, with what comes after it on its chain.
     Message { next: u16, envelope: Envelope },

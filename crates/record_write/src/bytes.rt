@@ -17,6 +17,7 @@ fn write_item(r: &mut [u8], at: usize, item: Item)
 }
 
 // Sender and addressee in one byte, half for each.
+#[tactic(auto, unfolding(record::specs::Layout::address_byte))]
 fn address_byte(sender: usize, addressee: usize) -> u8
     ensures { result ≡ address_byte sender addressee }
 {
@@ -35,6 +36,7 @@ fn write_fields(r: &mut [u8], fields: Fields)
     write_item(r, layout::ITEM_AT, fields.item);
 }
 
+#[tactic(auto, unfolding(record::specs::Layout::rows_bytes))]
 fn write_rows(r: &mut [u8], rows: [Item; item::MAX_NODES])
     requires { record_size ≤ length r.old }
     ensures { r.new ≡ with_part (max_nodes * row_size) r.old rows_at (rows_bytes rows) }

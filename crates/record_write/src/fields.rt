@@ -23,6 +23,7 @@ fn filled(envelope: Envelope, kind: u8, other: Incarnation, attempt: Attempt, it
 }
 
 // What a message has in each field; 0 in those that its kind does not use.
+#[tactic(auto, unfolding(record::specs::Kind::fields_of, record::specs::Kind::kind_of, record::specs::Kind::other_of, record::specs::Kind::attempt_of, record::specs::Kind::item_of))]
 pub fn fields_of(envelope: Envelope) -> Fields
     ensures { result ≡ fields_of envelope }
 {

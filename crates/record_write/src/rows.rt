@@ -8,6 +8,7 @@ use item::Item;
 use message::Message;
 
 // How many rows a record of this message has in a group of `n`.
+#[tactic(auto, unfolding(record::specs::Kind::rows_held))]
 pub fn rows_held(message: Message, n: usize) -> usize
     ensures { result ≡ rows_held message n }
 {
@@ -57,6 +58,7 @@ fn padded_rows(rows: [Item; item::MAX_NODES], held: usize) -> [Item; item::MAX_N
 }
 
 // The rows that a record of this message holds in a group of `n`, and zero items after them.
+#[tactic(auto, unfolding(record::specs::Layout::held_rows))]
 pub fn held_rows(
     message: Message,
     n: usize,

@@ -66,7 +66,7 @@ abbrev pub Each : (ViewMessage → Type 0) → List ViewMessage → Type 0
 Each P l = (m : ViewMessage) → Memᴰ m l → P m
 
 pub each_nil : (P : ViewMessage → Type 0) → Each P []
-each_nil P m h = absurd (Memᴰ.not_nil h)
+each_nil P m h = absurd (Memᴰ.not-nil h)
 
 pub each_cons : (P : ViewMessage → Type 0) (a : ViewMessage) (l : List ViewMessage) → P a → Each P l → Each P (a ∷ l)
 each_cons P a l h t m (Memᴰ.head e) = subst P (sym e) h

@@ -1,7 +1,6 @@
 // A drill's whole script, run at once over a store of its own.
 #![tactic(auto)]
 
-
 ghost use Rattle.run_script.specs.Script.{ScriptRun};
 
 use answers::LINE_ROOM;

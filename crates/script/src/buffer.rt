@@ -6,7 +6,7 @@ use crate::{Line, read_line};
 
 // The bytes of the present line that have come so far. A line of more than 64 bytes is no longer than 64 here; both
 // are unread, as every line of more than 43 bytes is.
-#[derive(Drop)]
+#[derive(Clone, Copy)]
 pub struct LineBuffer {
     pub bytes: [u8; LineBuffer::MOST],
     pub len: usize,
@@ -17,6 +17,7 @@ impl LineBuffer {
     pub const MOST: usize = 64;
 
     // A line of which nothing has come.
+    #[tactic(auto, unfolding(crate::specs::LineBuffer::none_yet))]
     pub fn none() -> LineBuffer
         ensures { result ≡ none_yet }
     {
@@ -27,6 +28,7 @@ impl LineBuffer {
     }
 
     // The line with one more byte.
+    #[tactic(auto, unfolding(crate::specs::LineBuffer::pushed))]
     pub fn push(self, b: u8) -> LineBuffer
         ensures { result ≡ pushed self b }
     {
@@ -42,6 +44,7 @@ impl LineBuffer {
 }
 
 // What the bytes that have come ask for, as a whole line.
+#[tactic(auto, unfolding(crate::specs::LineBuffer::buffered_line))]
 pub fn read_buffer(p: LineBuffer) -> Line
     ensures { result ≡ buffered_line p }
 {

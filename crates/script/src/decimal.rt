@@ -11,7 +11,7 @@ pub const MAX_DIGITS: usize = 20;
 const LARGEST: u64 = 18446744073709551615;
 
 // What some bytes are as a number.
-#[derive(Drop)]
+#[derive(Clone, Copy)]
 pub enum Number {
     Is(u64),
     // They are no number, or one above 64 bits.
@@ -19,6 +19,7 @@ pub enum Number {
 }
 
 // The number that the bytes write: digits only, at least one, no leading zero but that of `0`, at most 64 bits.
+#[tactic(auto, unfolding(crate::specs::Number::number_in))]
 pub fn number_in(s: &[u8]) -> Number
     ensures { result ≡ number_in s.now }
 {
@@ -32,6 +33,7 @@ pub fn number_in(s: &[u8]) -> Number
 }
 
 // Whether a zero stands before further bytes.
+#[tactic(auto, unfolding(crate::specs::Number::leading_zero))]
 fn leading_zero(s: &[u8]) -> bool
     ensures { result ≡ leading_zero s.now }
 {
@@ -59,6 +61,7 @@ fn digits_in(s: &[u8]) -> Number
 }
 
 // The number with one more digit after it.
+#[tactic(auto, unfolding(crate::specs::Number::number_from, crate::specs::Number::all_digits, crate::specs::Number::value_from, crate::specs::Number::is_digit))]
 fn with_digit(v: u64, b: u8) -> Number
     ensures { result ≡ number_from v (b ∷ []) }
 {

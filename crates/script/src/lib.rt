@@ -14,7 +14,7 @@ use item::Tag;
 use protocol::Event;
 
 // What an input line asks for.
-#[derive(Drop)]
+#[derive(Clone, Copy)]
 pub enum Line {
     // A group of this many nodes, set up.
     SetUp(u64),
@@ -24,7 +24,7 @@ pub enum Line {
 }
 
 // What a line asks of the group: the set-up of a group of n, or an event of the group of n that stands.
-#[derive(Drop)]
+#[derive(Clone, Copy)]
 pub struct Asked {
     pub n: u64,
     // Whether a group begins: it is a set-up, and the event is not looked at.
@@ -33,13 +33,14 @@ pub struct Asked {
 }
 
 // What some bytes are as a tag.
-#[derive(Drop)]
+#[derive(Clone, Copy)]
 pub enum TagField {
     Is(Tag),
     None,
 }
 
 // What the line asks for: a letter, a space, and the numbers that the letter takes, separated by one space.
+#[tactic(auto, unfolding(crate::specs::Line::line_of))]
 fn read_line(s: &[u8]) -> Line
     ensures { result ≡ line_of s.now }
 {
@@ -54,6 +55,7 @@ fn read_line(s: &[u8]) -> Line
 }
 
 // What a letter asks for with what stands after its space.
+#[tactic(auto, unfolding(crate::specs::Line::lettered, crate::specs::Line::one_number))]
 fn lettered_line(letter: u8, rest: &[u8]) -> Line
     ensures { result ≡ lettered letter rest.now }
 {
@@ -68,6 +70,7 @@ fn lettered_line(letter: u8, rest: &[u8]) -> Line
 }
 
 // What a letter that takes one number asks for.
+#[tactic(auto, unfolding(crate::specs::Line::with_number))]
 fn with_number(letter: u8, v: u64) -> Line
     ensures { result ≡ with_number letter v }
 {
@@ -83,6 +86,7 @@ fn with_number(letter: u8, v: u64) -> Line
 }
 
 // A Write: a node and a tag, separated by a space.
+#[tactic(auto, unfolding(crate::specs::Line::write_with))]
 fn write_line(s: &[u8]) -> Line
     ensures { result ≡ write_of s.now }
 {
@@ -119,6 +123,7 @@ fn word_length(s: &[u8]) -> usize
 }
 
 // The tag that the bytes write: a number.
+#[tactic(auto, unfolding(crate::specs::Line::tag_in, crate::specs::Line::tag_of))]
 fn tag_in(s: &[u8]) -> TagField
     ensures { result ≡ tag_in s.now }
 {

@@ -11,7 +11,7 @@ use phase::at_stage;
 use protocol::{Answer, Node, Refusal, Sends, Stage, Step};
 
 // What changes of a node.
-#[derive(Drop)]
+#[derive(Clone, Copy)]
 pub enum NodeChange {
     Nothing,
     // The sender's row.
@@ -25,7 +25,7 @@ pub enum NodeChange {
 }
 
 // What a node makes of a message.
-#[derive(Drop)]
+#[derive(Clone, Copy)]
 pub struct Decision {
     pub answer: Answer,
     pub change: NodeChange,
@@ -64,6 +64,7 @@ fn confirming(node: Node, sender: usize, incarnation: Incarnation) -> Node
 }
 
 // The node with what changes of it.
+#[tactic(auto, unfolding(crate::specs::Decision::changed))]
 pub fn changed(node: Node, sender: usize, change: NodeChange) -> Node
     ensures { result ≡ withChange node sender change }
 {
@@ -77,6 +78,7 @@ pub fn changed(node: Node, sender: usize, change: NodeChange) -> Node
 }
 
 // The decision as a step of this node.
+#[tactic(auto, unfolding(crate::specs::Decision::step_by))]
 pub fn step_of(node: Node, sender: usize, decision: Decision) -> Step
     ensures { result ≡ step_by node sender decision }
 {

@@ -9,7 +9,7 @@ use node::count_peers;
 use protocol::{Node, Peer, Phase};
 
 // What a node is to one sender.
-#[derive(Drop)]
+#[derive(Clone, Copy)]
 pub struct SenderView {
     // How many nodes the group has.
     pub n: usize,
@@ -45,6 +45,7 @@ fn count_with(peers: [Peer; Node::MAX_ROWS], sender: usize) -> usize
 
 // What the node is to this sender. Rows and peers are read here and not by `node::row_of` and `node::peer_of`, which take
 // the whole node or a list by value: the compiler would copy it for each of them. Past the last row they read as there.
+#[tactic(auto, unfolding(crate::specs::View::view_of, protocol::specs::Node::own_item, protocol::specs::Node::row_of, protocol::specs::Storing::is_counted, protocol::specs::Node::peer_of))]
 pub fn view_of(node: Node, sender: usize) -> SenderView
     ensures { result ≡ view_of node sender }
 {
@@ -80,6 +81,7 @@ pub fn view_of(node: Node, sender: usize) -> SenderView
 }
 
 // Whether other incarnation, attempt and item are the node's own present ones.
+#[tactic(auto, unfolding(crate::specs::View::own_write_in))]
 pub fn own_write(view: SenderView, other: Incarnation, attempt: Attempt, item: Item) -> bool
     ensures { result ≡ own_write_in view other attempt item }
 {

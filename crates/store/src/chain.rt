@@ -1,5 +1,5 @@
 // Which chain a record stands on.
-#[derive(Drop)]
+#[derive(Clone, Copy)]
 pub enum Chain {
     Free,
     // The inbox of this node.

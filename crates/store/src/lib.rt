@@ -11,7 +11,7 @@ pub const RECORDS: usize = 240;
 pub const LENGTH: usize = RECORDS * record::SIZE;
 
 // The chains followed so far.
-#[derive(Drop)]
+#[derive(Clone, Copy)]
 pub struct Walked {
     // No chain met a record twice, a record that is not there, or one that does not belong on it.
     pub ok: bool,
@@ -22,7 +22,7 @@ pub struct Walked {
 }
 
 // What one pass over the store finds.
-#[derive(Drop)]
+#[derive(Clone, Copy)]
 pub struct Survey {
     pub sound: bool,
     // The group's size that the head gives.

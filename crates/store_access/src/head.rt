@@ -27,6 +27,7 @@ fn wide(x: u8) -> usize
 }
 
 // The first free record, 0 if there is none.
+#[tactic(auto, unfolding(store::specs::Head::first_free))]
 pub fn first_free(s: &[u8]) -> usize
     ensures { result ≡ first_free (records_of s.now) }
 {
@@ -34,6 +35,7 @@ pub fn first_free(s: &[u8]) -> usize
 }
 
 // The size of the group.
+#[tactic(auto, unfolding(store::specs::Head::group_size))]
 pub fn group_size(s: &[u8]) -> usize
     ensures { result ≡ group_size (records_of s.now) }
 {
@@ -44,6 +46,7 @@ pub fn group_size(s: &[u8]) -> usize
 }
 
 // The first record of node `k`'s inbox, 0 if it is empty.
+#[tactic(auto, unfolding(store::specs::Head::first_of, store::specs::Head::inbox_at))]
 pub fn first_of(s: &[u8], k: usize) -> usize
     ensures { result ≡ first_of (records_of s.now) k }
 {
@@ -64,6 +67,7 @@ pub fn set_first_free(s: &mut [u8], i: usize)
 }
 
 // `i` modulo 65,536 becomes the first record of node `k`'s inbox.
+#[tactic(auto, unfolding(store::specs::Head::inbox_at))]
 pub fn set_first_of(s: &mut [u8], k: usize, i: usize)
     ensures { s.new ≡ with_record s.old 0 (with_number 2 (record_of s.old 0) (inbox_at k) i) }
 {

@@ -7,6 +7,7 @@ use message::Reading;
 
 // The message in record `r`, or a fault where there is none. Of a sound store exactly the records on inbox chains have
 // one. Its rows are `record_read::rows`.
+#[tactic(auto, unfolding(store::specs::Sound::message_at, store::specs::Records::right_length, store::specs::Sound::message_in))]
 pub fn message(s: &[u8], r: u64) -> Reading
     ensures { result ≡ message_at s.now r }
 {

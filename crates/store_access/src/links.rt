@@ -9,6 +9,7 @@ use endian::zeros;
 use record::layout;
 
 // The record after record `i` on its chain, 0 at the end.
+#[tactic(auto, unfolding(record::specs::Layout::next_of, endian::specs::Number::number_at, endian::specs::Number::value, endian::specs::Part::part, endian::specs::Part::whole))]
 pub fn next(s: &[u8], i: usize) -> usize
     ensures { result ≡ next_of (record_of s.now i) }
 {
@@ -20,6 +21,7 @@ pub fn next(s: &[u8], i: usize) -> usize
 }
 
 // `next` modulo 65,536 comes after record `i`; no other byte changes.
+#[tactic(auto, unfolding(record::specs::Record::with_next))]
 pub fn set_next(s: &mut [u8], i: usize, next: usize)
     ensures { s.new ≡ with_record s.old i (with_next (record_of s.old i) next) }
 {
@@ -32,6 +34,7 @@ pub fn set_next(s: &mut [u8], i: usize, next: usize)
 }
 
 // Record `i` becomes zeros.
+#[tactic(auto, unfolding(record::specs::Record::no_record))]
 pub fn clear(s: &mut [u8], i: usize)
     ensures { s.new ≡ with_record s.old i no_record }
 {
@@ -59,6 +62,7 @@ fn blank(r: &[u8]) -> bool
 }
 
 // Whether record `i` is zero after next, as a free one is.
+#[tactic(auto, unfolding(record::specs::Record::zero_after_next))]
 pub fn zero_after_next(s: &[u8], i: usize) -> bool
     ensures { result ≡ zero_after_next (record_of s.now i) }
 {

@@ -37,6 +37,7 @@ fn last_from(s: &[u8], first: usize) -> usize
 }
 
 // Record `i` stands at the end of node `k`'s inbox.
+#[tactic(auto, unfolding(store::specs::Change::appended))]
 fn append(s: &mut [u8], k: usize, i: usize)
     requires { length s.old ≡ record_count * record_size }
     ensures { records_of s.new ≡ appended (records_of s.old) k i }
@@ -51,6 +52,7 @@ fn append(s: &mut [u8], k: usize, i: usize)
 }
 
 // The first free record leaves the free chain and becomes the message.
+#[tactic(auto, unfolding(store::specs::Change::taken))]
 fn take_free(s: &mut [u8], envelope: Envelope, rows: [Item; item::MAX_NODES])
     requires { length s.old ≡ record_count * record_size }
     ensures { records_of s.new ≡ taken (records_of s.old) envelope rows }
@@ -64,6 +66,7 @@ fn take_free(s: &mut [u8], envelope: Envelope, rows: [Item; item::MAX_NODES])
 
 // The first free record takes the message, and stands at the end of the addressee's inbox. Where no record is free
 // nothing changes.
+#[tactic(auto, unfolding(store::specs::Change::put_in))]
 pub fn put(s: &mut [u8], envelope: Envelope, rows: [Item; item::MAX_NODES])
     ensures { s.new ≡ on_records (λ rs. put_in rs envelope rows) s.old }
 {

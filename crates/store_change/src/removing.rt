@@ -38,6 +38,7 @@ fn before_from(s: &[u8], r: usize, first: usize) -> usize
 }
 
 // Record `r` no longer stands on node `k`'s inbox.
+#[tactic(auto, unfolding(store::specs::Change::unlinked))]
 fn unlink(s: &mut [u8], k: usize, r: usize)
     requires { length s.old ≡ record_count * record_size }
     ensures { records_of s.new ≡ unlinked (records_of s.old) k r }
@@ -53,6 +54,7 @@ fn unlink(s: &mut [u8], k: usize, r: usize)
 }
 
 // Record `r` is cleared and becomes the first free record.
+#[tactic(auto, unfolding(store::specs::Change::freed))]
 fn free(s: &mut [u8], r: usize)
     requires { length s.old ≡ record_count * record_size }
     ensures { records_of s.new ≡ freed (records_of s.old) r }
@@ -64,6 +66,7 @@ fn free(s: &mut [u8], r: usize)
 }
 
 // Record `r` leaves the inbox of `owner`, is cleared and becomes the first free record.
+#[tactic(auto, unfolding(store::specs::Change::drop_in))]
 pub fn drop_message(s: &mut [u8], owner: usize, r: u64)
     ensures { s.new ≡ on_records (λ rs. drop_in rs owner r) s.old }
 {

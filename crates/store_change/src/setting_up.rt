@@ -22,6 +22,7 @@ fn link_free(s: &mut [u8])
 }
 
 // A store of a group of `n` with every record free.
+#[tactic(auto, unfolding(store::specs::Change::set_up))]
 pub fn set_up(s: &mut [u8], n: usize)
     ensures { s.new ≡ set_up n s.old }
 {

@@ -13,7 +13,7 @@ use std::num::wrapping_add_usize;
 use store_access::{links, stride};
 
 // What a chain comes to.
-#[derive(Drop)]
+#[derive(Clone, Copy)]
 pub struct Followed {
     // It met no record twice, none that is not there, and none that does not belong on it.
     pub ok: bool,
@@ -22,6 +22,7 @@ pub struct Followed {
 }
 
 // Whether a record is a message to `owner` from another node of a group of `n`.
+#[tactic(auto, unfolding(crate::proofs::Belonging::from_another))]
 fn message_to(r: &[u8], n: usize, owner: usize) -> bool
     ensures { result ≡ belongs_to n owner r.now }
 {
@@ -38,6 +39,7 @@ fn message_to(r: &[u8], n: usize, owner: usize) -> bool
 }
 
 // Whether record `i` is a message to `owner` from another node of a group of `n`.
+#[tactic(auto, unfolding(store::specs::Sound::belongs_to, store::specs::Sound::addressed_to, record::specs::Record::read_record))]
 fn belongs_to(s: &[u8], i: usize, n: usize, owner: usize) -> bool
     ensures { result ≡ belongs_to n owner (record_of s.now i) }
 {
@@ -50,6 +52,7 @@ fn belongs_to(s: &[u8], i: usize, n: usize, owner: usize) -> bool
 
 // The free chain from record `first` is followed to its end, or to a record that is not there, was passed before or is not
 // zero after next.
+#[tactic(auto, unfolding(store::specs::Sound::belongs_on))]
 pub fn follow_free(s: &[u8], first: usize, passed: &mut [bool]) -> Followed
     ensures { walked result.ok passed.new result.count ≡ followed Free 0 s.now first passed.old }
 {
@@ -94,6 +97,7 @@ pub fn follow_free(s: &[u8], first: usize, passed: &mut [bool]) -> Followed
 
 // The inbox of `owner` in a group of `n` from record `first` is followed to its end, or to a record that is not there, was
 // passed before or is no message to `owner` from another node.
+#[tactic(auto, unfolding(store::specs::Sound::belongs_on))]
 pub fn follow_inbox(s: &[u8], first: usize, n: usize, owner: usize, passed: &mut [bool]) -> Followed
     ensures { walked result.ok passed.new result.count ≡ followed (Inbox owner) n s.now first passed.old }
 {

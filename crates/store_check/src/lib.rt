@@ -16,6 +16,7 @@ use store::Survey;
 use store_access::head;
 
 // Whether the head is zero where no field of a group of its size stands.
+#[tactic(auto, unfolding(store::specs::Head::inbox_at))]
 fn head_zero(s: &[u8]) -> bool
     requires { length s.now ≡ record_count * record_size }
     ensures { result ≡ head_zero (records_of s.now) }
@@ -32,6 +33,7 @@ fn head_zero(s: &[u8]) -> bool
 }
 
 // Before any chain is followed only the head counts as passed.
+#[tactic(auto, unfolding(store::specs::Sound::head_passed))]
 fn head_passed() -> [bool; store::RECORDS]
     ensures { result ≡ head_passed record_count }
 {
@@ -59,6 +61,7 @@ fn follow_inboxes(s: &[u8], n: usize, free: Followed, passed: &mut [bool]) -> Fo
 }
 
 // Whether every record was passed. All are compared, by one branch-free loop, which the compiler vectorises.
+#[tactic(auto, unfolding(store::specs::Sound::all_passed))]
 fn all_passed(passed: &[bool]) -> bool
     ensures { result ≡ all_passed passed.now }
 {
@@ -72,6 +75,7 @@ fn all_passed(passed: &[bool]) -> bool
 }
 
 // Whether these bytes are a sound store, and if so the size of its group and how many records are free.
+#[tactic(auto, unfolding(store::specs::Sound::survey, store::specs::Records::right_length))]
 pub fn check_store(s: &[u8]) -> Survey
     ensures { result ≡ survey s.now }
 {

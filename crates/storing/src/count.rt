@@ -10,6 +10,7 @@ use protocol::{Refusal, Sends};
 use sender_view::{Decision, NodeChange, SenderView, ok, own_write, refused};
 
 // The sender is counted: at f Confirming begins, and Confirm goes to exactly those asked.
+#[tactic(auto, unfolding(crate::specs::Decisions::stored_counted_decision, sender_view::specs::View::below_half_in))]
 fn stored_counted(view: SenderView, incarnation: Incarnation) -> Decision
     ensures { result ≡ stored_counted_decision view incarnation }
 {
@@ -25,6 +26,7 @@ fn stored_counted(view: SenderView, incarnation: Incarnation) -> Decision
 }
 
 // Stored: refused with 9, 10 or 11; otherwise the sender is counted.
+#[tactic(auto, unfolding(crate::specs::Decisions::stored_decision))]
 pub fn on_stored(
     view: SenderView,
     incarnation: Incarnation,

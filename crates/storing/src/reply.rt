@@ -11,6 +11,7 @@ use protocol::{Refusal, Sends, Verdict};
 use sender_view::{Decision, NodeChange, SenderView, ok, refused};
 
 // What the row says to an item stored under these counters (refusals 12, 13, 10).
+#[tactic(auto, unfolding(protocol::specs::Storing::store_verdict))]
 fn store_verdict(row: Row, incarnation: Incarnation, attempt: Attempt, item: Item) -> Verdict
     ensures { result ≡ store_verdict row incarnation attempt item }
 {
@@ -30,6 +31,7 @@ fn store_verdict(row: Row, incarnation: Incarnation, attempt: Attempt, item: Ite
 }
 
 // Where the verdict is to take it, the sender's row takes the item with these counters, and Stored goes back.
+#[tactic(auto, unfolding(crate::specs::Decisions::reply_decision))]
 fn reply_store(verdict: Verdict, incarnation: Incarnation, attempt: Attempt, item: Item) -> Decision
     ensures { result ≡ reply_decision verdict incarnation attempt item }
 {
@@ -55,6 +57,7 @@ fn reply_store(verdict: Verdict, incarnation: Incarnation, attempt: Attempt, ite
 }
 
 // Store: refused with 9, 12, 13 or 10; otherwise the sender's row takes the item, and Stored goes back.
+#[tactic(auto, unfolding(crate::specs::Decisions::store_decision))]
 pub fn on_store(
     view: SenderView,
     incarnation: Incarnation,

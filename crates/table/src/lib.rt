@@ -13,6 +13,7 @@ use item::Incarnation;
 use protocol::Node;
 
 // What stands where the table has no node.
+#[tactic(auto, unfolding(protocol::specs::Table::no_node))]
 fn no_node() -> Node
     ensures { result ≡ no_node }
 {
