@@ -5,7 +5,6 @@ use native.Mathlib.Omega.{arith}
 use lib.ListN.{length}
 use Rattle.endian.proofs.PartLaws.{inside}
 use Rattle.endian.proofs.NumberLaws.{nothing_read, number_two}
-use borrow.Author.Rules.{rules}
 use Rattle.endian.proofs.read.read_u16.Goals as goal
 
 pub returns-then-not-lies_within : goal.returns-then-not-lies_within

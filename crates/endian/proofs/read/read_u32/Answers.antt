@@ -3,7 +3,6 @@ use native.Mathlib.Omega.{arith}
 use lib.ListN.{length}
 use Rattle.endian.proofs.PartLaws.{inside}
 use Rattle.endian.proofs.NumberLaws.{nothing_read, halves_read}
-use borrow.Author.Rules.{rules}
 use Rattle.endian.proofs.read.read_u32.Goals as goal
 
 pub returns-then-not-lies_within : goal.returns-then-not-lies_within

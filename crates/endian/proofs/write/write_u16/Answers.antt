@@ -3,7 +3,6 @@ use native.Mathlib.Omega.{arith}
 use lib.ListN.{length, length-set}
 use Rattle.endian.proofs.PartLaws.{inside}
 use Rattle.endian.proofs.NumberLaws.{nothing_written, with_two}
-use borrow.Author.Rules.{rules}
 use Rattle.endian.proofs.write.write_u16.Goals as goal
 
 pub returns-then-not-lies_within : goal.returns-then-not-lies_within

@@ -4,7 +4,6 @@ use native.Mathlib.Omega.{arith}
 use lib.ListN.{length}
 use Rattle.endian.proofs.PartLaws.{inside}
 use Rattle.endian.proofs.NumberLaws.{nothing_written, halves_written}
-use borrow.Author.Rules.{rules}
 use Rattle.endian.proofs.write.write_u64.Goals as goal
 
 pub returns-then-not-lies_within : goal.returns-then-not-lies_within

@@ -1,11 +1,10 @@
 use native.Mathlib.Omega.{arith}
 use Rattle.endian.specs.Zero.{zeros}
-use lib.ListN.{length, drop, set, length-set, drop_of_length-le}
+use lib.ListN.{length, set, length-set, drop_of_length-le}
 use borrow.Author.Fill.{fill_more}
 use mathlib.Core.List.{List, ◌++◌, append-nil}
 use mathlib.Core.Path.{◌≡◌, refl, ap, ◌∙◌}
-use Prim.Native.Nat.{ℕ, ◌≤◌, ◌-◌}
-use borrow.Author.Rules.{rules}
+use Prim.Native.Nat.{ℕ}
 use Rattle.endian.proofs.zeros.clear.Goals as goal
 
 pub loop-k-init : goal.loop-k-init

@@ -1,12 +1,9 @@
 -- `endian::zeros::clear` meets its contract. The invariant: the bytes passed are zeros, the others as they were.
-use native.Mathlib.Omega.{arith}
 use Rattle.endian.specs.Zero.{zeros}
-use lib.ListN.{length, drop, set, length-set, drop_of_length-le}
-use borrow.Author.Fill.{fill_more}
-use mathlib.Core.List.{List, ◌++◌, append-nil}
-use mathlib.Core.Path.{◌≡◌, refl, ap, ◌∙◌}
-use Prim.Native.Nat.{ℕ, ◌≤◌, ◌-◌}
-use borrow.Author.Rules.{rules}
+use lib.ListN.{length, drop}
+use mathlib.Core.List.{◌++◌}
+use mathlib.Core.Path.{◌≡◌}
+use Prim.Native.Nat.{◌≤◌, ◌-◌}
 use Rattle.endian.proofs.zeros.clear.Given as goal
 
 abbrev pub invariant-loop-k : goal.invariant-loop-k

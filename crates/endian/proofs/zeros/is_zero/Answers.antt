@@ -2,11 +2,7 @@ use native.Mathlib.Omega.{arith}
 use Rattle.endian.proofs.ZeroLaws.{zero_more}
 use Rattle.endian.specs.Zero.{all_zero}
 use lib.Seq.{take_all}
-use lib.ListN.{length, take}
-use lib.Dec.{eqb}
-use mathlib.Core.Path.{◌≡◌, refl, ap, ◌∙◌}
-use Prim.Native.Nat.{◌≤◌, ◌-◌}
-use borrow.Author.Rules.{rules}
+use mathlib.Core.Path.{refl, ap, ◌∙◌}
 use Rattle.endian.proofs.zeros.is_zero.Goals as goal
 
 pub loop-i-init : goal.loop-i-init

@@ -1,14 +1,10 @@
 -- `endian::zeros::is_zero` meets its contract. The invariant: what is joined so far is 0 exactly if the bytes passed are.
 -- Or is 0 exactly if both are (`or-zero`), so each turn is `zero_more`.
-use native.Mathlib.Omega.{arith}
-use Rattle.endian.proofs.ZeroLaws.{zero_more}
 use Rattle.endian.specs.Zero.{all_zero}
-use lib.Seq.{take_all}
 use lib.ListN.{length, take}
 use lib.Dec.{eqb}
-use mathlib.Core.Path.{◌≡◌, refl, ap, ◌∙◌}
+use mathlib.Core.Path.{◌≡◌}
 use Prim.Native.Nat.{◌≤◌, ◌-◌}
-use borrow.Author.Rules.{rules}
 use Rattle.endian.proofs.zeros.is_zero.Given as goal
 
 abbrev pub invariant-loop-i : goal.invariant-loop-i
