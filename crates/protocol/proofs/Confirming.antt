@@ -25,7 +25,7 @@ use Rattle.protocol.specs.declared.Answer.TheVariants as answer
 use Rattle.protocol.specs.declared.Node.{Node}
 use Rattle.protocol.specs.declared.Phase.{Phase}
 use Rattle.protocol.proofs.Cases.{IfTaken, refusal_not_taken, confirm_cases, confirmed_cases}
-use Rattle.protocol.proofs.Counts.{present, present_set}
+use Rattle.protocol.proofs.Counts.{present_set}
 use Rattle.protocol.proofs.InView.{InView, half_is}
 use Rattle.protocol.proofs.Phases.{confirming_seen, confirming_live, returning_is, returning_not}
 use Rattle.protocol.proofs.Place.{by_place, peer_there, numbered, at_x, at_other, own_row, counted_of_group}

@@ -3,16 +3,19 @@
 use Prim.Native.Nat.{ℕ, suc, ◌<◌}
 use mathlib.Core.Path.{ap, subst, ◌∙◌}
 use mathlib.Core.Logic.{inl, inr}
-use mathlib.Core.Bool.{true, false≢true}
+use mathlib.Core.Bool.{false≢true}
 use mathlib.Core.List.{List}
 use borrow.Author.Tests.{eqb-true}
 use Rattle.item.specs.declared.Item.{Item}
+use Rattle.message.specs.declared.Reading.{Reading}
 use Rattle.returns.specs.History.{returns, May}
 use Rattle.returns.specs.View.{clash}
 use Rattle.protocol.specs.Call.{Call, is_to}
 use Rattle.protocol.specs.Claim.{ReturnsWith, AsItLastStood, ReturnsAsItStood, OfNetworkRuns, EveryNetworkReturn}
-use Rattle.protocol.specs.Network.{Network, writes, retries, crashes, starts, delivers, Next, host_refuses, node_refuses, drops, acts}
+use Rattle.protocol.specs.Network.{Network, Decides, writes, retries, crashes, starts, delivers, Next, host_refuses, node_refuses, drops, acts}
 use Rattle.protocol.specs.Node.{half}
+use Rattle.protocol.specs.declared.Event.{Event}
+use Rattle.protocol.specs.declared.Step.{Step}
 use Rattle.protocol.proofs.Along.{At}
 use Rattle.protocol.proofs.Grouped.{Grouped}
 use Rattle.protocol.proofs.InView.{odd_size, size_fits}
@@ -25,12 +28,16 @@ unfolding is_to
 returned_below n x item G (host_refuses e m why z) R = let a = R.accepted in clash (cc)
 returned_below n x item G (node_refuses {step = step} d a) R = refused_not_accepted step.answer item a R.accepted
 returned_below n x item G (drops r) R = let a = R.accepted in clash (cc)
-returned_below n x item G (acts (writes k tag b) z) R = absurd (false≢true R.at_x)
-returned_below n x item G (acts (retries k b) z) R = absurd (false≢true R.at_x)
-returned_below n x item G (acts (crashes k b) z) R = absurd (false≢true R.at_x)
-returned_below n x item G (acts (starts k b) z) R = absurd (false≢true R.at_x)
-returned_below n x item G (acts (delivers r p m) z) R =
-    subst (λ (i : ℕ). i < n) (eqb-true p.envelope.addressee x R.at_x) (G.addressed p m).addressee_below
+returned_below n x item {net = net} G (acts d z) R = go d R
+  where
+    go : {e : Event} {m : Reading} {k back : ℕ} {step : Step} → Decides net e m k back step
+        → ReturnsWith x item (record { event = e; answer = step.answer; message = m }) → x < n
+    go (writes k tag b) R = absurd (false≢true R.at_x)
+    go (retries k b) R = absurd (false≢true R.at_x)
+    go (crashes k b) R = absurd (false≢true R.at_x)
+    go (starts k b) R = absurd (false≢true R.at_x)
+    go (delivers r p m) R =
+        subst (λ (i : ℕ). i < n) (eqb-true p.envelope.addressee x R.at_x) (G.addressed p m).addressee_below
 
 -- what the invariant allows, in the words of the claim
 as_it_stood : (f x : ℕ) (before : List Call) (net : Network) (item : Item) → (K : Known f x before net)

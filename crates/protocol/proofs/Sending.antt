@@ -12,7 +12,6 @@ use Rattle.item.specs.Maxima.{max_nodes}
 use Rattle.item.specs.Tests.{by_cond, and_right}
 use Rattle.message.specs.declared.Envelope.{Envelope}
 use Rattle.message.specs.declared.Message.{Message}
-use Rattle.message.specs.declared.Message.TheVariants as message
 use Rattle.message.specs.declared.Outgoing.{Outgoing}
 use Rattle.returns.specs.Change.{Change, MaySend}
 use Rattle.returns.specs.History.{Note}

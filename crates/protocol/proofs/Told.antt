@@ -16,13 +16,14 @@ use Rattle.returns.specs.History.{Note, quiet, begins, settles, returns, History
 use Rattle.returns.specs.View.{clash}
 use Rattle.protocol.specs.Answer.{is_refused}
 use Rattle.protocol.specs.Claim.{ReturnsWith}
-use Rattle.protocol.specs.Network.{Network, writes, retries, crashes, starts, delivers, Next, host_refuses, node_refuses, drops, acts}
+use Rattle.protocol.specs.Network.{Network, Decides, writes, retries, crashes, starts, delivers, Next, host_refuses, node_refuses, drops, acts}
 use Rattle.protocol.specs.Call.{Call, is_to, item_after, last_after, is_ok, begun_at}
 use Rattle.protocol.specs.declared.Answer.{Answer}
 use Rattle.protocol.specs.declared.Answer.TheVariants as answer
 use Rattle.protocol.specs.declared.Event.{Event}
 use Rattle.protocol.specs.declared.Event.TheVariants as event
 use Rattle.protocol.specs.declared.Refusal.{Refusal}
+use Rattle.protocol.specs.declared.Step.{Step}
 use Rattle.protocol.proofs.Seen.{note_of}
 
 -- what an event, the message that it delivers and its answer tell of x
@@ -111,11 +112,15 @@ unfolding last_after is_to item_after is_refused
 told_last x (host_refuses e m why z) h = refused_last x e m (answer.Refused why) refl h
 told_last x (node_refuses {e = e} {m = m} {step = step} d a) h = refused_last x e m step.answer a h
 told_last x (drops r) h = refl
-told_last x (acts {step = step} (writes k tag b) z) h = begun_last h tag (is_ok step.answer) (eqb k x)
-told_last x (acts (retries k b) z) h = refl
-told_last x (acts (crashes k b) z) h = refl
-told_last x (acts (starts k b) z) h = refl
-told_last x (acts {step = step} (delivers r p m) z) h = deliver_last x p.envelope.addressee step.answer h
+told_last x {net = net} (acts d z) h = go d
+  where
+    go : {e : Event} {m : Reading} {k back : ℕ} {step : Step} → Decides net e m k back step
+        → (after_note h (told x e m step.answer)).last ≡ last_after x (record { event = e; answer = step.answer; message = m }) h.last
+    go {step = step} (writes k tag b) = begun_last h tag (is_ok step.answer) (eqb k x)
+    go (retries k b) = refl
+    go (crashes k b) = refl
+    go (starts k b) = refl
+    go {step = step} (delivers r p m) = deliver_last x p.envelope.addressee step.answer h
 
 -- ---- the items begun
 
@@ -153,12 +158,16 @@ told_begun x (host_refuses e m why z) h item j = inl (subst (λ (t : Note). Mem�
 told_begun x (node_refuses {e = e} {m = m} {step = step} d a) h item j =
     inl (subst (λ (t : Note). Memᴰ item (after_note h t).begun) (told_refused x e m step.answer a) j)
 told_begun x (drops r) h item j = inl j
-told_begun x (acts {step = step} (writes k tag b) z) h item j = write_begun h tag item (is_ok step.answer) (eqb k x) j
-told_begun x (acts (retries k b) z) h item j = inl j
-told_begun x (acts (crashes k b) z) h item j = inl j
-told_begun x (acts (starts k b) z) h item j = inl j
-told_begun x (acts {step = step} (delivers r p m) z) h item j =
-    inl (subst (λ (l : List Item). Memᴰ item l) (deliver_begun x p.envelope.addressee step.answer h) j)
+told_begun x {net = net} (acts d z) h item j = go d j
+  where
+    go : {e : Event} {m : Reading} {k back : ℕ} {step : Step} → Decides net e m k back step
+        → Memᴰ item (after_note h (told x e m step.answer)).begun → Memᴰ item h.begun ⊎ Memᴰ item (begun_at x e step.answer h.last)
+    go {step = step} (writes k tag b) i = write_begun h tag item (is_ok step.answer) (eqb k x) i
+    go (retries k b) i = inl i
+    go (crashes k b) i = inl i
+    go (starts k b) i = inl i
+    go {step = step} (delivers r p m) i =
+        inl (subst (λ (l : List Item). Memᴰ item l) (deliver_begun x p.envelope.addressee step.answer h) i)
 
 -- ---- a return
 
@@ -167,9 +176,13 @@ unfolding is_to
 told_returns x (host_refuses e m why z) item R = let a = R.accepted in clash (cc)
 told_returns x (node_refuses {step = step} d a) item R = refused_not_accepted step.answer item a R.accepted
 told_returns x (drops r) item R = let a = R.accepted in clash (cc)
-told_returns x (acts (writes k tag b) z) item R = absurd (false≢true R.at_x)
-told_returns x (acts (retries k b) z) item R = absurd (false≢true R.at_x)
-told_returns x (acts (crashes k b) z) item R = absurd (false≢true R.at_x)
-told_returns x (acts (starts k b) z) item R = absurd (false≢true R.at_x)
-told_returns x (acts (delivers r p m) z) item R =
-    ap (note_of x p.envelope.addressee) R.accepted ∙ ap (λ (t : Bool). cond t (returns item) quiet) R.at_x
+told_returns x {net = net} (acts d z) item R = go d R
+  where
+    go : {e : Event} {m : Reading} {k back : ℕ} {step : Step} → Decides net e m k back step
+        → ReturnsWith x item (record { event = e; answer = step.answer; message = m }) → told x e m step.answer ≡ returns item
+    go (writes k tag b) R = absurd (false≢true R.at_x)
+    go (retries k b) R = absurd (false≢true R.at_x)
+    go (crashes k b) R = absurd (false≢true R.at_x)
+    go (starts k b) R = absurd (false≢true R.at_x)
+    go (delivers r p m) R =
+        ap (note_of x p.envelope.addressee) R.accepted ∙ ap (λ (t : Bool). cond t (returns item) quiet) R.at_x

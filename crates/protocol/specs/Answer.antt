@@ -1,6 +1,5 @@
 -- Answers and refusals: document 01's number of each refusal, by one definition, and the two shapes of a decision.
 use Rattle.std.specs.Prelude.{ℕ, Bool, true, false}
-use Rattle.message.specs.declared.Message.{Message}
 use Rattle.protocol.specs.declared.Answer.{Answer}
 use Rattle.protocol.specs.declared.Answer.TheVariants as answer
 use Rattle.protocol.specs.declared.Node.{Node}

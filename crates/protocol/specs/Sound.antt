@@ -1,7 +1,7 @@
 -- When a node is sound at its place (document 01, Message store): "each with its place as number, this n, and unused
 -- fields zero; those it counted are below n, not itself, and fewer than f (Storing, Confirming) or f+1 (Fetching); those
 -- asked to confirm are exactly f others below n, and the counted are among them."
-use Rattle.std.specs.Prelude.{ℕ, zero, suc, Bool, true, cond, not, ◌&&◌, List, [], ◌∷◌, ltb, eqb}
+use Rattle.std.specs.Prelude.{ℕ, suc, Bool, true, cond, not, ◌&&◌, List, [], ◌∷◌, ltb, eqb}
 use Rattle.item.specs.Counter.{same_incarnation, same_attempt}
 use Rattle.item.specs.Row.{zero_row, same_row}
 use Rattle.item.specs.declared.counters.Attempt.{Attempt}

@@ -185,12 +185,14 @@ impl Node {
 }
 
 // Of the refusals in a run, 5, 6 and 9 to 13 are a node's own, and it gives no other.
+#[tactic(auto, using(crate::proofs::NodeRefusals::node_refusals))]
 pub fn node_refusals()
     ensures { NodeRefusals }
 {}
 
 // Demand 3 of nodes on machines of their own, whatever becomes of the messages between them: a node that returns names its
 // last item, or an item of the next index that it had itself begun.
+#[tactic(auto, using(crate::proofs::NetworkReturns::every_network_return))]
 pub fn every_network_return()
     ensures { EveryNetworkReturn }
 {}
