@@ -127,7 +127,7 @@ unfolding changed_by
 counted node after s o a item number size incarnation attempt rows h = record {
   same_number = number;
   same_size = size;
-  same_incarnation_lem = λ _. incarnation;
+  same_incarnation = λ _. incarnation;
   same_attempt = λ _. attempt;
   same_phase = may;
   same_row = λ i _. rows i;
@@ -145,7 +145,7 @@ unfolding changed_by among
 tabled node after s o number size incarnation h = record {
   same_number = number;
   same_size = size;
-  same_incarnation_lem = λ _. incarnation;
+  same_incarnation = λ _. incarnation;
   same_attempt = may;
   same_phase = may;
   same_row = λ _ e. may e;

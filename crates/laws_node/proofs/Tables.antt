@@ -71,7 +71,7 @@ top_came y [] = rw (eq-eqb (rank y) (max (rank y) 0) (omega arith))
 top_came y (z ∷ h) =
     by_cases (ltb (rank y) (top_rank (z ∷ h)))
     (λ t. let e : max (rank y) (top_rank (z ∷ h)) ≡ top_rank (z ∷ h) = omega (arith, ltb-true (rank y) (top_rank (z ∷ h)) t) in
-    rw (e, top_came z h) (or-true (eqb (rank y) (top_rank (z ∷ h)))))
+    subst (λ (k : ℕ). came k (y ∷ z ∷ h) ≡ true) (sym e) (rw (top_came z h) (or-true (eqb (rank y) (top_rank (z ∷ h))))))
     (λ t. rw (eq-eqb (rank y) (max (rank y) (top_rank (z ∷ h))) (omega (arith, ltb-false (rank y) (top_rank (z ∷ h)) t))))
 
 -- a row that is marked unless the tags agree
