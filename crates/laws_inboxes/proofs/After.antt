@@ -165,4 +165,4 @@ set_up_empties n table store ok =
     let e : records_of (joined (empty_records record_count n)) ≡ empty_records record_count n
     = records_joined (empty_records record_count n) (length_empty record_count n) (empty_sized record_count n) in
     let d = set_up_done n U.valid in
-    rw (U.Store-is, e) (record { inboxes = empty_holds n (empty_records record_count n) d.inboxes; free = d.free })
+    rw (U.store_is, e) (record { inboxes = empty_holds n (empty_records record_count n) d.inboxes; free = d.free })

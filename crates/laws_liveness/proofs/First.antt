@@ -142,4 +142,4 @@ first_write_gets_through n x table store accepted low tag t peers P =
     let e : records_of (joined (empty_records record_count n)) ≡ empty_records record_count n
     = records_joined (empty_records record_count n) (length_empty record_count n) (empty_sized record_count n) in
     first_through n x low (size_fits n U.valid) tag t (set_up n table store) (set_up_is_sound n table store accepted) U.table_is
-    (ap (λ (s : List ℕ). free_count (records_of s)) U.Store-is ∙ ap free_count e ∙ (set_up_done n U.valid).counted) peers P
+    (ap (λ (s : List ℕ). free_count (records_of s)) U.store_is ∙ ap free_count e ∙ (set_up_done n U.valid).counted) peers P

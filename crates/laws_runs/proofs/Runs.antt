@@ -100,7 +100,7 @@ pub set_up_is_sound : SetUpIsSound
 unfolding SetUpIsSound
 set_up_is_sound n table store ok =
     let U : SetUpTo n (set_up n table store) = set_up_is n table store ok in
-    rw (U.table_is, U.Store-is) (fresh_sound n U.valid)
+    rw (U.table_is, U.store_is) (fresh_sound n U.valid)
 
 -- ---- every operation
 

@@ -76,7 +76,7 @@ runs_are_network_runs n table store ok events t =
         → RunFrom n (network_of (fresh_table n) []) (calls result.table result.store events) (left result events)
     from_set_up result U =
         subst (λ (nodes : List Node). RunFrom n (network_of nodes []) (calls result.table result.store events) (left result events)) U.table_is
-        (run_from n (size_fits n U.valid) events t result [] (rw U.table_is (set_up_grouped n)) (rw (U.table_is, U.Store-is) (first_represents n)))
+        (run_from n (size_fits n U.valid) events t result [] (rw U.table_is (set_up_grouped n)) (rw (U.table_is, U.store_is) (first_represents n)))
 
 -- What is true of every network run, of its calls and the nodes that it leaves, is true of every run over table and store.
 pub of_every_run : (P : ℕ → List Call → List Node → Type 0) → OfNetworkRuns (λ n calls net. P n calls net.nodes) →
