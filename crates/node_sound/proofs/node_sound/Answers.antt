@@ -32,6 +32,17 @@ fields_sound-requires-then-not-is_up_idle c = (c.if-node-place.false, c.if-node-
 pub returns-then-not-is_up_idle : goal.returns-then-not-is_up_idle
 returns-then-not-is_up_idle c = c.fields_sound-then-not-is_up_idle.ensures
 
+pub returns-then-n-ge-MAX_ROWS : goal.returns-then-n-ge-MAX_ROWS
+returns-then-n-ge-MAX_ROWS c =
+    let good = c.well_formed in
+    let long : length c.args.node.rows ≡ max_nodes = search (length_mapped, good) in
+    let a = c.args in
+    let rest = granted c.is_at_rest-at_rest.ensures c.if-not-at_rest.false-raw in
+    let idle = granted c.is_up_idle.ensures c.if-not-is_up_idle.false-raw in
+    sym
+    (rest_sound a.node rest a.n idle a.place c.if-node-place.false c.if-node-n.false
+    ∙ rest_rows a.node rest a.n idle (omega arith))
+
 pub returns : goal.returns
 returns c =
     let a = c.args in
