@@ -2,7 +2,7 @@
 -- two narrower ones.
 use Prim.Native.Nat.{ℕ, zero, suc, ◌+◌, ◌*◌, ◌/◌, ◌%◌, ◌^◌, ◌≤◌, ◌<◌}
 use mathlib.Core.Path.{◌≡◌, refl, sym, ap, ◌∙◌}
-use mathlib.Core.Bool.{Bool, true, false, not}
+use mathlib.Core.Bool.{Bool, true, false}
 use mathlib.Core.List.{List, [], ◌∷◌, ◌++◌}
 use native.Mathlib.Omega.{arith}
 use native.Mathlib.Numerals.{add-one}
@@ -127,14 +127,14 @@ with_number_joined a b s at v h =
 -- ---- as code reads and writes: r is the answer whether the bytes lie within s
 
 module _ {r : Bool} (w : ℕ) (s : List ℕ) (at : ℕ) (e : r ≡ leb (at + w) (length s)) where
-  pub nothing_read : not r ≡ true → 0 ≡ number_at w s at
+  pub nothing_read : r ≡ false → 0 ≡ number_at w s at
   nothing_read h = sym (number_none w s at (outside w (length s) at e h))
 
-  pub nothing_written : (v : ℕ) → not r ≡ true → s ≡ with_number w s at v
+  pub nothing_written : (v : ℕ) → r ≡ false → s ≡ with_number w s at v
   nothing_written v h = sym (with_number_none w s at v (outside w (length s) at e h))
 
 -- a number of twice the width a, by two of width a
-module _ {r : Bool} (a : ℕ) (s : List ℕ) (at : ℕ) (e : r ≡ leb (at + (a + a)) (length s)) (h : not r ≡ false) where
+module _ {r : Bool} (a : ℕ) (s : List ℕ) (at : ℕ) (e : r ≡ leb (at + (a + a)) (length s)) (h : r ≡ true) where
   pub halves_read : {low high : ℕ} → low ≡ number_at a s at → high ≡ number_at a s (at + a) → low + 256 ^ a * high ≡ number_at (a + a) s at
   halves_read l k = rw (l, k) (sym (number_joined a a s at (inside (a + a) (length s) at e h)))
 

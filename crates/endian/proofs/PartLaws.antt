@@ -2,14 +2,14 @@
 -- meet are one.
 use Prim.Native.Nat.{ℕ, zero, suc, ◌+◌, ◌-◌, ◌≤◌, ◌<◌}
 use mathlib.Core.Path.{◌≡◌, refl, sym, ap, ◌∙◌}
-use mathlib.Core.Bool.{Bool, true, false, not}
+use mathlib.Core.Bool.{Bool, true, false}
 use mathlib.Core.Logic.{◌⊎◌, ⊎_elim}
 use mathlib.Core.List.{List, [], ◌∷◌, ◌++◌, append_assoc}
 use native.Mathlib.Omega.{arith}
 use native.Mathlib.Nat.{suc-add, zero-add, add-zero, lt_of_not-le}
 use native.Mathlib.Decide.{dec_le}
 use lib.Dec.{leb}
-use borrow.Author.Tests.{eq-eqb, ne_eqb, le-leb, lt-leb, leb-true, leb-false, not-true, not-false}
+use borrow.Author.Tests.{eq-eqb, ne_eqb, le-leb, lt-leb, leb-true, leb-false}
 use borrow.Rule.Slice.PartMut.{put_mid}
 use lib.ListN.{length, take, drop, length-append, length-take, length-drop, take-append-drop}
 use lib.Seq.{length-take-le, take_at, drop_at, take-take, drop-drop, take_all, take-nil, sets, sets-eq}
@@ -117,11 +117,11 @@ unfolding part whole
 part_seam w p q t at lp lq = rw (drop_at p (q ++ t) at lp, take_at q t w lq, eq-eqb (length q) w lq)
 
 -- what the test of a place tells, taken or left
-pub outside : {r : Bool} (w len at : ℕ) → r ≡ leb (at + w) len → not r ≡ true → len < at + w
-outside {r} w len at e h = leb-false (at + w) len (sym e ∙ not-true r h)
+pub outside : {r : Bool} (w len at : ℕ) → r ≡ leb (at + w) len → r ≡ false → len < at + w
+outside {r} w len at e h = leb-false (at + w) len (sym e ∙ h)
 
-pub inside : {r : Bool} (w len at : ℕ) → r ≡ leb (at + w) len → not r ≡ false → at + w ≤ len
-inside {r} w len at e h = leb-true (at + w) len (sym e ∙ not-false r h)
+pub inside : {r : Bool} (w len at : ℕ) → r ≡ leb (at + w) len → r ≡ true → at + w ≤ len
+inside {r} w len at e h = leb-true (at + w) len (sym e ∙ h)
 
 -- two parts that meet are one
 pub with_joined : (a b : ℕ) (s : List ℕ) (at : ℕ) (x y : List ℕ) → length x ≡ a → length y ≡ b → at + (a + b) ≤ length s

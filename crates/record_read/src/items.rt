@@ -7,7 +7,6 @@ use item::Item;
 use record::SIZE;
 
 // The fifteen rows of record `i`, used or not.
-#[tactic(auto, unfolding(record::specs::Layout::rows_of, record::specs::Layout::items_in, record::specs::Layout::item_in, endian::specs::Number::number_at, endian::specs::Number::value, endian::specs::Part::part, endian::specs::Part::whole))]
 pub fn rows(s: &[u8], i: usize) -> [Item; item::MAX_NODES]
     ensures { result ≡ rows_of (record_of s.now i) }
 {

@@ -42,7 +42,6 @@ fn read_record(r: &[u8], n: usize) -> Reading
 }
 
 // The message in record `i`, for a group of `n`, or a fault. Sender, addressee and next are not judged.
-#[tactic(auto, unfolding(record::specs::Record::read_record))]
 pub fn read(s: &[u8], i: usize, n: usize) -> Reading
     ensures { result ≡ read_record n (record_of s.now i) }
 {

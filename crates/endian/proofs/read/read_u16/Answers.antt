@@ -1,29 +1,15 @@
--- `endian::read::read_u16` meets its contract: 0 past the end, else the number of two bytes, by `number-two`.
--- A byte is below 256, so neither product nor sum wraps.
-use Prim.Native.Nat.{◌+◌}
-use native.Mathlib.Omega.{arith}
-use lib.ListN.{length}
+-- 0 past the end, else the two bytes as code reads them, by `number_two`.
+use Rattle.std.proofs.Common.{◌+◌, ◌*◌, length, get_or, ◌≡◌, sym, ◌∙◌}
 use Rattle.endian.proofs.PartLaws.{inside}
 use Rattle.endian.proofs.NumberLaws.{nothing_read, number_two}
 use Rattle.endian.proofs.read.read_u16.Goals as goal
 
 pub returns-then-not-lies_within : goal.returns-then-not-lies_within
-returns-then-not-lies_within c = let a = c.args in nothing_read 2 a.s.now a.at c.lies_within.ensures c.if-not-lies_within.true-raw
-
-pub bounds-s-at : goal.bounds-s-at
-bounds-s-at c = let a = c.args in let h = inside 2 (length a.s.now) a.at c.lies_within.ensures c.if-not-lies_within.false-raw in omega arith
-
-pub overflow_add-at : goal.overflow_add-at
-overflow_add-at c = let a = c.args in let h = inside 2 (length a.s.now) a.at c.lies_within.ensures c.if-not-lies_within.false-raw in omega arith
-
-pub bounds-s-at-2 : goal.bounds-s-at-2
-bounds-s-at-2 c = let a = c.args in let h = inside 2 (length a.s.now) a.at c.lies_within.ensures c.if-not-lies_within.false-raw in omega arith
-
-pub overflow_mul-result : goal.overflow_mul-result
-overflow_mul-result c = let a = c.args in omega (arith, c.shared_slice_known-3-1.given (a.at + 1), c.wide-2.ensures)
-
-pub overflow_add-result : goal.overflow_add-result
-overflow_add-result c = let a = c.args in omega (arith, c.shared_slice_known-3-1.given (a.at + 1), c.shared_slice_known-3-1.given a.at, c.wide-2.ensures, c.wide.ensures)
+returns-then-not-lies_within c = nothing_read 2 c.args.s.now c.args.at c.lies_within.ensures c.if-not-lies_within.true
 
 pub returns : goal.returns
-returns c = let a = c.args in let s = a.s.now in rw (c.wide.ensures, c.wide-2.ensures, number_two s a.at (inside 2 (length s) a.at c.lies_within.ensures c.if-not-lies_within.false-raw))
+returns c =
+    let s = c.args.s.now in
+    let at = c.args.at in
+    let e : c.wide.result + 256 * c.wide-2.result ≡ get_or s at 0 + 256 * get_or s (at + 1) 0 = cc in
+    e ∙ sym (number_two s at (inside 2 (length s) at c.lies_within.ensures c.if-not-lies_within.false))
