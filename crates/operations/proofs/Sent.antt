@@ -17,7 +17,6 @@ use Rattle.item.specs.declared.Item.{Item}
 use Rattle.item.specs.declared.Row.{Row}
 use Rattle.message.specs.declared.Envelope.{Envelope}
 use Rattle.message.specs.declared.Message.{Message}
-use Rattle.message.specs.declared.Message.TheVariants as message
 use Rattle.message.specs.declared.Outgoing.{Outgoing}
 use Rattle.record.specs.Kind.{fields_of, rows_held}
 use Rattle.record.specs.Layout.{padded}

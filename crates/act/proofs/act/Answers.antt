@@ -2,7 +2,6 @@
 use Rattle.event.proofs.Laws.{acted_refused, acted_taken}
 use Rattle.event.specs.Act.{Outcome, handed_back}
 use mathlib.Core.Path.{sym, ap, ◌∙◌}
-use borrow.Author.Rules.{rules}
 use Rattle.act.proofs.act.Goals as goal
 
 pub returns-in-Refuse : goal.returns-in-Refuse

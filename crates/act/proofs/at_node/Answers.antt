@@ -3,7 +3,6 @@ use Rattle.event.proofs.Laws.{at_none, at_some}
 use native.Mathlib.Omega.{arith}
 use Rattle.event.specs.Act.{Outcome, handed_back}
 use mathlib.Core.Path.{sym, ap, ◌∙◌}
-use borrow.Author.Rules.{rules}
 use Rattle.act.proofs.at_node.Goals as goal
 
 pub returns-then-seen-k : goal.returns-then-seen-k

@@ -2,7 +2,6 @@
 use Rattle.event.proofs.Laws.{sound_write, sound_retry, sound_crash, sound_start, sound_drop, sound_deliver, dropped_node}
 use Rattle.event.specs.Act.{Outcome, handed_back}
 use mathlib.Core.Path.{sym, ap, ◌∙◌}
-use borrow.Author.Rules.{rules}
 use Rattle.act.proofs.on_sound.Goals as goal
 
 pub returns-in-Write : goal.returns-in-Write

@@ -18,9 +18,7 @@ use Rattle.drill_state.specs.declared.line_reader.Position.{Position}
 use Rattle.drill_state.proofs.Laws.{rest_byte, rest_unread, rest_asks, not_asked}
 use borrow.Author.Rules.{rules}
 use Rattle.drill_state.proofs.line_reader.read_on.Goals as goal
-
-abbrev Keeps : List ℕ → List ℕ → Position → List ℕ → Position → Type 0
-Keeps piece out₀ p₀ out p = (before : Progress) (sb : List ℕ) (nodes : List Node) (store : List ℕ) → Reached piece before sb out₀ p₀ nodes store → Reached piece before sb out p nodes store
+use Rattle.drill_state.proofs.line_reader.read_on.Goals.{else-loop-next-test, then-loop-next-test+else-b-ne10+then-not-has_room, then-loop-next-test+else-b-ne10+else-not-has_room+then-count}
 
 pub loop-next-init : goal.loop-next-init
 loop-next-init c = (search rules, (omega arith, (λ h. h, (refl, λ before sb nodes store so. so))))
@@ -90,12 +88,11 @@ returns c =
             forward = l.invariant.1.0;
             further = λ e. absurd (false≢true e);
             ended = λ _ few.
-                ⊎_elim
-                (λ w. inl (omega (arith, w.left, l.invariant.1.1.0 few)))
-                (⊎_elim
-                (λ w. inr (inl (leb-false _ _ (refuted w.3.ensures w.4.taken))))
-                (λ w. inr (inr (omega (arith, w.5.taken)))))
-                c.loop-next-test.branch;
+                elim c.loop-next-test.branch [
+                  else-loop-next-test w ↦ inl (omega (arith, w.loop-next-test.false, l.invariant.1.1.0 few))
+                | then-loop-next-test+else-b-ne10+then-not-has_room w ↦ inr (inl (leb-false _ _ (sym w.has_room.ensures ∙ w.if-not-has_room.true)))
+                | then-loop-next-test+else-b-ne10+else-not-has_room+then-count w ↦ inr (inr (omega (arith, w.if-count.true)))
+                ];
           };
       same = l.invariant.1.1.1.0;
     })

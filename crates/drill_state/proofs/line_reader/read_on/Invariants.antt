@@ -21,6 +21,9 @@ use Rattle.drill_state.proofs.Laws.{rest_byte, rest_unread, rest_asks, not_asked
 use borrow.Author.Rules.{rules}
 use Rattle.drill_state.proofs.line_reader.read_on.Given as goal
 
+abbrev Keeps : List ℕ → List ℕ → Position → List ℕ → Position → Type 0
+Keeps piece out₀ p₀ out p = (before : Progress) (sb : List ℕ) (nodes : List Node) (store : List ℕ) → Reached piece before sb out₀ p₀ nodes store → Reached piece before sb out p nodes store
+
 abbrev pub invariant-loop-next : goal.invariant-loop-next
 invariant-loop-next l = (l.count < 2 ^ 64) × ((l.initial.next ≤ l.next) × ((l.initial.next ≤ length l.piece → l.next ≤ length l.piece) × ((length l.out ≡ length l.initial.out) × Keeps l.piece l.initial.out (resting_at l.initial.next l.initial.at l.initial.count l.initial.pending l.n) l.out (resting_at l.next l.at l.count l.pending l.n))))
 
