@@ -2,7 +2,6 @@
 use Rattle.group.proofs.SetUpLaws.{size_wrong, nodes_wrong, length_wrong, all_right}
 use borrow.Author.Tests.{not-true, not-false}
 use mathlib.Core.Path.{sym, ◌∙◌}
-use borrow.Author.Rules.{rules}
 use Rattle.group.proofs.preparing.prepare.Goals as goal
 
 pub returns-then-not-valid_size : goal.returns-then-not-valid_size
