@@ -1,0 +1,59 @@
+-- `run_script::run` meets its contract: the script is one piece, and what it leaves to print is the unended last line.
+use Prim.Native.Nat.{ℕ, ◌+◌, ◌-◌, ◌*◌, ◌≤◌, ◌<◌}
+use native.Mathlib.Omega.{arith}
+use mathlib.Core.Path.{◌≡◌, ◌∙◌}
+use lib.ListN.{take, replicate}
+use Rattle.record.specs.Layout.{record_size}
+use Rattle.store.specs.Records.{record_count}
+use Rattle.run_script.proofs.ScriptLaws.{first_of_replicate, cut_short, no_room, ended, unended}
+use borrow.Author.Rules.{rules}
+use Rattle.run_script.proofs.run.Goals as goal
+
+-- the store that is lent holds zeros
+store-zeros : take (record_count * record_size) (replicate {A = ℕ} (record_count * record_size + 8) 0) ≡ replicate (record_count * record_size) 0
+store-zeros = first_of_replicate (record_count * record_size) (record_count * record_size + 8) 0 (omega arith)
+
+itself : (n : ℕ) → n ≤ n
+itself n = omega arith
+
+sum_fits : (at r part n k : ℕ) → at ≤ n → r ≤ part → part ≡ n - at → n ≡ k → k < 18446744073709551616 → at + r < 18446744073709551616
+sum_fits at r part n k w h e same fits = omega arith
+
+pub returns-then-fed-script : goal.returns-then-fed-script
+returns-then-fed-script c = cut_short _ _ _ _ _ _ _ _ c.feed-fed.ensures c.start.ensures store-zeros c.if-fed-script.true c.well_formed.0.0
+
+pub returns-then-pending-eq0 : goal.returns-then-pending-eq0
+returns-then-pending-eq0 c = ended _ _ _ _ _ _ _ _ c.feed-fed.ensures c.start.ensures store-zeros c.out-1.given c.well_formed.1.0.0 c.if-fed-script.false c.if-pending-eq0.true
+
+pub overflow_sub-out : goal.overflow_sub-out
+overflow_sub-out c = c.feed-fed.ensures.within.1
+
+pub returns-then-out-at-lt-LINE_ROOM : goal.returns-then-out-at-lt-LINE_ROOM
+returns-then-out-at-lt-LINE_ROOM c = no_room _ _ _ _ _ _ _ _ c.feed-fed.ensures c.start.ensures store-zeros c.if-out-at-lt-LINE_ROOM.true
+
+pub slice_bounds-finish-count : goal.slice_bounds-finish-count
+slice_bounds-finish-count c = c.feed-fed.ensures.within.1
+
+pub overflow_add-result : goal.overflow_add-result
+overflow_add-result c =
+    let fed = c.feed-fed.ensures in
+    let lent = c.out-2-1.given.0 ∙ c.finish-arg-1.given.2 in
+    record { fits = sum_fits _ _ _ _ _ fed.within.1 c.finish.ensures.upper_bound lent c.out-1.given c.well_formed.1.0.0 }
+
+pub returns : goal.returns
+returns c =
+    let last = c.finish in
+    let back = c.out-2-1.given in
+    let good = c.well_formed in
+    unended _ _ _ _ _ _ _ _ c.feed-fed.ensures c.start.ensures store-zeros last.new.out last.result
+    c.out-1.given
+    good.1.0.0
+    good.0.0
+    c.if-fed-script.false
+    c.if-pending-eq0.false
+    c.if-out-at-lt-LINE_ROOM.false
+    c.finish-arg-1.given.2
+    back.0
+    back.1
+    last.ensures.upper_bound
+    last.ensures.out_after
