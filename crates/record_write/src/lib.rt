@@ -18,7 +18,6 @@ use record::SIZE;
 
 // Record `i` becomes this message, with `next` after it on its chain: of the rows as many as the message has in a
 // group of `n`, and zeros after them.
-#[tactic(auto, unfolding(record::specs::Record::record_bytes, record::specs::Layout::held_rows))]
 pub fn write(
     s: &mut [u8],
     i: usize,
