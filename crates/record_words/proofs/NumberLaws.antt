@@ -1,12 +1,12 @@
 -- Laws of the numbers of a record: which fit, and one row more.
-use Prim.Native.Nat.{ℕ, zero, suc, ◌+◌, ◌-◌, ◌*◌, ◌≤◌, ◌<◌}
+use Prim.Native.Nat.{ℕ, zero, suc, ◌+◌, ◌*◌, ◌≤◌, ◌<◌}
 use native.Mathlib.Omega.{arith}
 use native.Mathlib.Numerals.{add-one}
 use native.Mathlib.Nat.{not-suc-le-zero, le_of_suc-le-suc}
 use mathlib.Core.Path.{◌≡◌, refl, sym, ap, ◌∙◌}
 use mathlib.Core.Bool.{Bool, true, false, ◌&&◌, cond, and_assoc, and-false}
 use mathlib.Core.List.{List, [], ◌∷◌, ◌++◌}
-use lib.Dec.{eqb, ltb}
+use lib.Dec.{eqb}
 use lib.Bits.{bit_or}
 use lib.ListN.{length, get_or, take, drop, set, drop_of_length-le}
 use lib.Seq.{length-take-le, drop-cons}
@@ -24,7 +24,6 @@ use Rattle.record.specs.Kind.{message_of, rows_held}
 use Rattle.record.specs.Layout.{rows_at, row_size, index_size, item_in, rows_of}
 use Rattle.record.specs.declared.kinds.Fields.{Fields}
 use Rattle.record.specs.declared.kinds.Known.TheVariants as known
-use Rattle.message.specs.declared.Message as kind
 use Rattle.record.specs.Record.{envelope_of}
 use Rattle.record_read.specs.Readable.{rows_of_kind}
 use Rattle.record_read.proofs.Reading.{length_rows, row_at}

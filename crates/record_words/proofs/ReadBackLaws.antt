@@ -14,7 +14,6 @@ use Rattle.endian.proofs.PartLaws.{by_order}
 use Rattle.endian.specs.Zero.{zeros, all_zero}
 use Rattle.endian.proofs.ZeroLaws.{all_zero_is}
 use Rattle.record.specs.Kind.{fields_of, message_of, rows_held}
-use Rattle.record.specs.declared.kinds.Fields.{Fields}
 use Rattle.record.specs.declared.kinds.Known.{Known}
 use Rattle.record.specs.declared.kinds.Known.TheVariants as known
 use Rattle.record.specs.Layout.{padded, held_rows, layout_bytes, rows_of}

@@ -8,6 +8,7 @@ use item::{Attempt, Incarnation, Index, Item, Tag};
 use record::kinds::Fields;
 
 // Whether there are as many numbers as a record has, and each fits its field.
+#[tactic(auto, unfolding(crate::specs::Numbers::numbers_fit))]
 fn fit(numbers: &[u64]) -> bool
     ensures { result ≡ numbers_fit numbers.now }
 {
@@ -39,7 +40,7 @@ fn fit(numbers: &[u64]) -> bool
 }
 
 // The fields that numbers say, where they fit.
-#[tactic(auto, unfolding(crate::specs::Numbers::fields_from))]
+#[tactic(auto, using(crate::proofs::NumberLaws::fit_is), unfolding(crate::specs::Numbers::fields_from))]
 fn fitting_fields(numbers: &[u64]) -> Fields
     requires { numbers_fit numbers.now ≡ true }
     ensures { result ≡ fields_from numbers.now }
