@@ -3,7 +3,7 @@ use Prim.Native.Nat.{suc, ◌<◌, ◌≤◌}
 use native.Mathlib.Omega.{arith}
 use mathlib.Core.Path.{◌≡◌, refl}
 use mathlib.Core.Bool.{Bool, true, false, beq, false≢true}
-use lib.Dec.{ltb, eqb}
+use lib.Dec.{eqb}
 use borrow.Author.Tests.{ltb-true, ltb-false, lt-ltb, le-ltb, eqb-true}
 use Rattle.item.specs.Counter.{index_below, index_at_largest, next_index, same_incarnation, incarnation_at_largest, next_incarnation, same_attempt, attempt_at_largest, next_attempt}
 use Rattle.item.specs.Item.{tags_agree, ranks_below, same_item}

@@ -16,7 +16,7 @@ use Rattle.protocol.specs.declared.Node.{Node}
 use Rattle.protocol.specs.declared.Refusal.TheVariants.{WrongStage, AtLargest}
 use Rattle.protocol.specs.declared.Step.{Step}
 use Rattle.laws_enabled.specs.Acting.{acted, is_room_for}
-use Rattle.laws_enabled.proofs.Steps.{refused-acts, quiet-acts, store-acts, fetch-acts}
+use Rattle.laws_enabled.proofs.Steps.{refused_acts, quiet_acts, store_acts, fetch_acts}
 use borrow.Author.Tests.{le-leb}
 use native.Mathlib.Omega.{arith}
 use Rattle.store.specs.Sound.{free_count}
@@ -38,9 +38,9 @@ module _ (table : List Node) (store : List ℕ) (rs : List (List ℕ)) (n k : �
   write_node tag =
       by_cond (ActsAs (is_up_idle node.phase && (not (write_at_largest node) && is_room_for (n - 1) rs))) (is_up_idle node.phase) _ _
       (λ e. by_cond (ActsAs (is_up_idle node.phase && (not (write_at_largest node) && is_room_for (n - 1) rs))) (write_at_largest node) _ _
-      (λ l s. rw (e, l) (refused-acts table store rs k k node AtLargest))
-      (λ l s. rw (e, l) (store-acts table store rs k k n low most _ s)))
-      (λ e s. rw e (refused-acts table store rs k k node WrongStage))
+      (λ l s. rw (e, l) (refused_acts table store rs k k node AtLargest))
+      (λ l s. rw (e, l) (store_acts table store rs k k n low most _ s)))
+      (λ e s. rw e (refused_acts table store rs k k node WrongStage))
 
   pub retry_node : sound_node n k (retry_step node).node ≡ true
       → acted (carried_out table store rs k k (retry_step node))
@@ -49,12 +49,12 @@ module _ (table : List Node) (store : List ℕ) (rs : List (List ℕ)) (n k : �
   unfolding retry_step nothing_to_retry send_store send_fetch ok
   retry_node =
       by_cond (ActsAs test) (is_down node.phase || is_idle node.phase) _ _
-      (λ e s. rw e (refused-acts table store rs k k node WrongStage))
+      (λ e s. rw e (refused_acts table store rs k k node WrongStage))
       (λ e. by_cond (ActsAs test) (is_fetching node.phase) _ _
-      (λ f s. rw (e, f) (fetch-acts table store rs k k n low most node s))
+      (λ f s. rw (e, f) (fetch_acts table store rs k k n low most node s))
       (λ f. by_cond (ActsAs test) (attempt_at_largest node.attempt) _ _
-      (λ l s. rw (e, f, l) (refused-acts table store rs k k node AtLargest))
-      (λ l s. rw (e, f, l) (store-acts table store rs k k n low most _ s))))
+      (λ l s. rw (e, f, l) (refused_acts table store rs k k node AtLargest))
+      (λ l s. rw (e, f, l) (store_acts table store rs k k n low most _ s))))
     where
       test : Bool
       test = not (is_down node.phase || is_idle node.phase) &&
@@ -64,8 +64,8 @@ module _ (table : List Node) (store : List ℕ) (rs : List (List ℕ)) (n k : �
   unfolding crash_step ok
   crash_node =
       by_cond (λ (step : Step). acted (carried_out table store rs k k step) ≡ not (is_down node.phase)) (is_down node.phase) _ _
-      (λ e. rw e (refused-acts table store rs k k node WrongStage))
-      (λ e. rw e (quiet-acts table store rs k k _ _ refl ∙ no_room_needed rs))
+      (λ e. rw e (refused_acts table store rs k k node WrongStage))
+      (λ e. rw e (quiet_acts table store rs k k _ _ refl ∙ no_room_needed rs))
 
   pub start_node : sound_node n k (start_step node).node ≡ true
       → acted (carried_out table store rs k k (start_step node))
@@ -75,6 +75,6 @@ module _ (table : List Node) (store : List ℕ) (rs : List (List ℕ)) (n k : �
       by_cond (ActsAs (is_down node.phase && (not (incarnation_at_largest node.incarnation) && is_room_for (n - 1) rs))) (is_down node.phase) _ _
       (λ e. by_cond (ActsAs (is_down node.phase && (not (incarnation_at_largest node.incarnation) && is_room_for (n - 1) rs)))
       (incarnation_at_largest node.incarnation) _ _
-      (λ l s. rw (e, l) (refused-acts table store rs k k node AtLargest))
-      (λ l s. rw (e, l) (fetch-acts table store rs k k n low most _ s)))
-      (λ e s. rw e (refused-acts table store rs k k node WrongStage))
+      (λ l s. rw (e, l) (refused_acts table store rs k k node AtLargest))
+      (λ l s. rw (e, l) (fetch_acts table store rs k k n low most _ s)))
+      (λ e s. rw e (refused_acts table store rs k k node WrongStage))

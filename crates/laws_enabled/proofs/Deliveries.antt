@@ -31,7 +31,7 @@ use Rattle.protocol.specs.declared.Step.{Step}
 use Rattle.protocol.specs.declared.Verdict.{Verdict}
 use Rattle.protocol.specs.Shaped.{Shaped}
 use Rattle.laws_enabled.specs.Acting.{acted, is_room_for, row_takes, takes, sending}
-use Rattle.laws_enabled.proofs.Steps.{refused-acts, quiet-acts, store-acts, back-acts, confirm-acts, asked-half}
+use Rattle.laws_enabled.proofs.Steps.{refused_acts, quiet_acts, store_acts, back_acts, confirm_acts, asked_half}
 
 -- the answer at the end of a write is no refusal
 end_taken : (p : Phase) (i : Item) → is_refused (end_answer p i) ≡ false
@@ -45,7 +45,7 @@ module _ (table : List Node) (store : List ℕ) (rs : List (List ℕ)) (n k : �
   ActsAs test step = sound_node n k step.node ≡ true → Shaped step.node → acted (carried_out table store rs k sender step) ≡ test
 
   no : (why : Refusal) → acted (carried_out table store rs k sender (refused node why)) ≡ false
-  no why = refused-acts table store rs k sender node why
+  no why = refused_acts table store rs k sender node why
 
   store_node : (a : Attempt) (item : Item)
       → ActsAs ((is_up node.phase && row_takes (row_of node sender) i a item) && is_room_for 1 rs) (on_store node sender i a item)
@@ -55,11 +55,11 @@ module _ (table : List Node) (store : List ℕ) (rs : List (List ℕ)) (n k : �
       (λ e. by_cond OfVerdict (ranks_below item (row_of node sender).item) _ _
       (λ lower _ _. rw (e, lower) (no LowerRank))
       (λ lower. by_cond OfVerdict (ranks_below (row_of node sender).item item) _ _
-      (λ higher s _. rw (e, lower, higher) (back-acts table store rs k sender n low most _ s _ from))
+      (λ higher s _. rw (e, lower, higher) (back_acts table store rs k sender n low most _ s _ from))
       (λ higher. by_cond OfVerdict (same_item item (row_of node sender).item) _ _
       (λ alike. by_cond OfVerdict (earlier i a (row_of node sender).incarnation (row_of node sender).attempt) _ _
       (λ early _ _. rw (e, lower, higher, alike, early) (no Stale))
-      (λ early s _. rw (e, lower, higher, alike, early) (back-acts table store rs k sender n low most _ s _ from)))
+      (λ early s _. rw (e, lower, higher, alike, early) (back_acts table store rs k sender n low most _ s _ from)))
       (λ alike _ _. rw (e, lower, higher, alike) (no OtherTag)))))
       (λ e _ _. rw e (no NotTaken))
     where
@@ -74,8 +74,8 @@ module _ (table : List Node) (store : List ℕ) (rs : List (List ℕ)) (n k : �
       (send_confirm (confirming_begun (with_counted node sender i) (at_stage (with_counted node sender i).phase Confirming)))
   unfolding send_confirm ok confirming_begun with_counted
   asks e s shaped =
-      confirm-acts table store rs k sender n low most (confirming_begun (with_counted node sender i) (at_stage node.phase Confirming)) s shaped
-      (asked-half n k (with_counted node sender i) e s)
+      confirm_acts table store rs k sender n low most (confirming_begun (with_counted node sender i) (at_stage node.phase Confirming)) s shaped
+      (asked_half n k (with_counted node sender i) e s)
 
   stored_node : (o : Incarnation) (a : Attempt) (item : Item)
       → ActsAs ((is_storing node.phase && (own_write node o a item && not (is_counted node sender))) &&
@@ -87,7 +87,7 @@ module _ (table : List Node) (store : List ℕ) (rs : List (List ℕ)) (n k : �
       (λ own. by_cond (ActsAs test) (is_counted node sender) _ _
       (λ c _ _. rw (e, own, c) (no Counted))
       (λ c. by_cond (ActsAs test) (below_half (with_counted node sender i)) _ _
-      (λ few _ _. rw (e, own, c, few) (quiet-acts table store rs k sender _ _ refl))
+      (λ few _ _. rw (e, own, c, few) (quiet_acts table store rs k sender _ _ refl))
       (λ few s shaped. rw (e, own, c, few) (asks e s shaped))))
       (λ own _ _. rw (e, own) (no Stale)))
       (λ e _ _. rw e (no NotTaken))
@@ -103,7 +103,7 @@ module _ (table : List Node) (store : List ℕ) (rs : List (List ℕ)) (n k : �
   confirm_node o a item =
       by_cond (ActsAs test) (is_up node.phase) _ _
       (λ e. by_cond (ActsAs test) (own_incarnation node o && stored_under (row_of node sender) i a item) _ _
-      (λ fit s _. rw (e, fit) (back-acts table store rs k sender n low most node s _ from))
+      (λ fit s _. rw (e, fit) (back_acts table store rs k sender n low most node s _ from))
       (λ fit _ _. rw (e, fit) (no Stale)))
       (λ e _ _. rw e (no NotTaken))
     where
@@ -120,8 +120,8 @@ module _ (table : List Node) (store : List ℕ) (rs : List (List ℕ)) (n k : �
       (λ own. by_cond (ActsAs test) (is_counted node sender) _ _
       (λ c _ _. rw (e, own, c) (no Counted))
       (λ c. by_cond (ActsAs test) (below_half (with_counted node sender i)) _ _
-      (λ few _ _. rw (e, own, c) (quiet-acts table store rs k sender _ _ refl))
-      (λ few _ _. rw (e, own, c) (quiet-acts table store rs k sender _ _ (end_taken _ _)))))
+      (λ few _ _. rw (e, own, c) (quiet_acts table store rs k sender _ _ refl))
+      (λ few _ _. rw (e, own, c) (quiet_acts table store rs k sender _ _ (end_taken _ _)))))
       (λ own _ _. rw (e, own) (no Stale)))
       (λ e _ _. rw e (no NotTaken))
     where
@@ -132,7 +132,7 @@ module _ (table : List Node) (store : List ℕ) (rs : List (List ℕ)) (n k : �
   unfolding on_fetch ok
   fetch_node =
       by_cond (ActsAs (is_up node.phase && is_room_for 1 rs)) (is_up node.phase) _ _
-      (λ e s _. rw e (back-acts table store rs k sender n low most node s _ from))
+      (λ e s _. rw e (back_acts table store rs k sender n low most node s _ from))
       (λ e _ _. rw e (no NotTaken))
 
   table_node : (o : Incarnation) (items : List Item)
@@ -146,10 +146,10 @@ module _ (table : List Node) (store : List ℕ) (rs : List (List ℕ)) (n k : �
       (λ own. by_cond (ActsAs test) (is_counted node sender) _ _
       (λ c _ _. rw (e, own, c) (no Counted))
       (λ c. by_cond (ActsAs test) (at_most_half (with_table node sender i items)) _ _
-      (λ few _ _. rw (e, own, c, few) (quiet-acts table store rs k sender _ _ refl))
+      (λ few _ _. rw (e, own, c, few) (quiet_acts table store rs k sender _ _ refl))
       (λ few. by_cond (ActsAs test) (has_conflict (with_table node sender i items)) _ _
-      (λ two _ _. rw (e, own, c, few, two) (quiet-acts table store rs k sender _ _ refl))
-      (λ two s _. rw (e, own, c, few, two) (store-acts table store rs k sender n low most _ s)))))
+      (λ two _ _. rw (e, own, c, few, two) (quiet_acts table store rs k sender _ _ refl))
+      (λ two s _. rw (e, own, c, few, two) (store_acts table store rs k sender n low most _ s)))))
       (λ own _ _. rw (e, own) (no Stale)))
       (λ e _ _. rw e (no NotTaken))
     where

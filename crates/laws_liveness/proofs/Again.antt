@@ -1,5 +1,5 @@
 -- A Retry of an Up node begins its write again, which then gets through.
-use Prim.Native.Nat.{ℕ, ◌-◌, ◌<◌}
+use Prim.Native.Nat.{ℕ, ◌<◌}
 use native.Mathlib.Omega.{arith}
 use mathlib.Core.Path.{◌≡◌, refl, ap, subst, ◌∙◌}
 use mathlib.Core.Bool.{true, false}
@@ -65,7 +65,7 @@ module _ (n x : ℕ) (peers : List ℕ) (before : Result) (M : MayRetry n x peer
   number = number_is n x node (node_sound n before.table (group_table n before.table before.store M.sound) x M.below)
 
   step_is : retry_step node ≡ send_store (retried node)
-  step_is = retries node M.is_up M.under_way M.may_rise
+  step_is = retries node M.node_up M.under_way M.may_rise
 
   decided : Decided n before.table x x (send_store (retried node))
   decided = subst (Decided n before.table x x) step_is (retry_decided n before.table before.store M.sound x M.below)
@@ -85,7 +85,7 @@ module _ (n x : ℕ) (peers : List ℕ) (before : Result) (M : MayRetry n x peer
   unfolding retried storing_begun TagFits
   again P =
       subst (λ (k : Item). BeginsAndGetsThrough x peers k (perform (event.Retry x) before.table before.store)) same_item
-      (begins n x M.below before M.sound (retried node) decided (up_storing node.phase M.is_up) refl
+      (begins n x M.below before M.sound (retried node) decided (up_storing node.phase M.node_up) refl
       (omega (arith, M.room, odd_size n valid)) (perform (event.Retry x) before.table before.store) begun_is
       (performs n before.table before.store M.sound (event.Retry x) tt) peers P M.up
       (each_map

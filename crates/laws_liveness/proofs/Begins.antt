@@ -18,7 +18,6 @@ use Rattle.protocol.specs.Outgoing.{outgoing, outgoing_to, goes_to, message_to}
 use Rattle.protocol.specs.Phase.{is_up}
 use Rattle.protocol.specs.Table.{node_at}
 use Rattle.protocol.specs.Write.{send_store}
-use Rattle.protocol.specs.declared.Answer.TheVariants as answer
 use Rattle.protocol.specs.declared.Node.{Node}
 use Rattle.protocol.specs.declared.Phase.TheVariants.{Up}
 use Rattle.protocol.specs.declared.Stage.TheVariants.{Storing}

@@ -17,7 +17,6 @@ use Rattle.item.specs.Row.{zero_row}
 use Rattle.item.specs.declared.Item.{Item}
 use Rattle.item.specs.declared.Row.{Row}
 use Rattle.item.specs.declared.Tag.{Tag}
-use Rattle.message.specs.declared.Message.TheVariants as message
 use Rattle.store.specs.Change.{empty_records}
 use Rattle.store.specs.Head.{group_size}
 use Rattle.store.proofs.Joined.{records_joined}
@@ -30,10 +29,8 @@ use Rattle.operations.specs.Operation.{Result, carried_out, at_node, on_sound, s
 use Rattle.protocol.specs.Phase.{is_up}
 use Rattle.protocol.specs.Table.{no_node, node_at, fresh_nodes, fresh_table}
 use Rattle.protocol.specs.Write.{send_store, next_item, write_at_largest, written, write_step}
-use Rattle.protocol.specs.declared.Answer.TheVariants as answer
 use Rattle.protocol.specs.declared.Event.TheVariants as event
 use Rattle.protocol.specs.declared.Node.{Node}
-use Rattle.protocol.specs.declared.Sends.TheVariants as sends
 use Rattle.operations.proofs.Fitting.{get_or_same}
 use Rattle.protocol.proofs.InView.{size_fits}
 use Rattle.operations.proofs.Start.{SetUpTo, set_up_is}

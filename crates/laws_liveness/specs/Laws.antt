@@ -82,7 +82,7 @@ FirstWriteGetsThrough =
 pub record MayRetry (n x : ℕ) (peers : List ℕ) (before : Result) : Type 0 where
   pub sound : LeavesSound n before
   pub below : x < n
-  pub is_up : is_up (node_at before.table x).phase ≡ true
+  pub node_up : is_up (node_at before.table x).phase ≡ true
   pub under_way : is_idle (node_at before.table x).phase ≡ false
   pub may_rise : attempt_at_largest (node_at before.table x).attempt ≡ false
   pub up : Each (λ q. is_up (node_at before.table q).phase ≡ true) peers

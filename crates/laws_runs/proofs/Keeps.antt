@@ -151,7 +151,7 @@ module _ (n : ℕ) (table : List Node) (store : List ℕ) (G : SoundGroup n tabl
     envelope_fits = outgoing_fits step.node step.sends back D.fits.node_fits D.fits.sends_fit number_low size_low
 
     items_fit_lem : RowsFit (row_items step.node)
-    items_fit = rows_fit (row_items step.node) (node_items_fit step.node D.fits.node_fits)
+    items_fit_lem = rows_fit (row_items step.node) (node_items_fit step.node D.fits.node_fits)
 
     -- what it sends may be put, and reads back with the rows beside it
     pub all_for_group : AllForGroup (group_size (records_of store)) (outgoing step.node step.sends back) (row_items step.node)

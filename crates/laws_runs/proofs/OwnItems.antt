@@ -14,13 +14,14 @@ use Rattle.item.specs.Item.{zero_item, item_above}
 use Rattle.item.specs.Maxima.{valid_size}
 use Rattle.item.specs.declared.Item.{Item}
 use Rattle.item.specs.declared.Tag.{Tag}
+use Rattle.message.specs.declared.Reading.{Reading}
 use Rattle.returns.specs.History.{Note, quiet, begins, settles, returns, History, after_note, May}
 use Rattle.returns.specs.Invariant.{Own}
 use Rattle.returns.specs.View.{up, idle, ViewNode, clash}
 use Rattle.protocol.specs.Answer.{is_refused, ok}
 use Rattle.protocol.specs.Call.{Call, is_to, is_ok, last_after, last_from, last_item}
 use Rattle.protocol.specs.Claim.{OfNetworkRuns}
-use Rattle.protocol.specs.Network.{Network, network_after, writes, retries, crashes, starts, delivers, Next, host_refuses, node_refuses, drops, acts, Run, fresh_network}
+use Rattle.protocol.specs.Network.{Network, Decides, network_after, writes, retries, crashes, starts, delivers, Next, host_refuses, node_refuses, drops, acts, Run, fresh_network}
 use Rattle.protocol.specs.Node.{half, row_of, own_item, crashed, blank_node, fresh_node, write_ended}
 use Rattle.protocol.specs.Phase.{is_up, is_up_idle}
 use Rattle.protocol.specs.Table.{no_node, node_at}
@@ -44,7 +45,7 @@ use Rattle.protocol.proofs.Place.{own_row}
 use Rattle.protocol.proofs.Reached.{Known, Reached, call_allowed, reached, reached_call, at_reached}
 use Rattle.protocol.proofs.Seen.{seen_phase, stage_in, seen, note_of}
 use Rattle.protocol.proofs.Shown.{shown, next_shown}
-use Rattle.protocol.proofs.Told.{told_by, told_last, refused_why}
+use Rattle.protocol.proofs.Told.{told, told_by, told_last, refused_why}
 use Rattle.operations.proofs.Simulation.{of_every_run}
 use Rattle.laws_runs.specs.Along.{OfRuns, OfAllRuns, OwnStands, OwnAlong, LastNeverFalls, written_by, written_from, written, SettledWasWritten}
 use Rattle.laws_runs.proofs.Moves.{Writing, Moves, moves}
@@ -251,12 +252,14 @@ unfolding is_to
 named_below n x G (host_refuses e m why z) item a t = clash (cc)
 named_below n x G (node_refuses {step = step} d r) item a t = absurd (false≢true (sym (ap is_refused a) ∙ r))
 named_below n x G (drops r) item a t = clash (cc)
-named_below n x G (acts (writes k tag b) z) item a t = absurd (false≢true t)
-named_below n x G (acts (retries k b) z) item a t = absurd (false≢true t)
-named_below n x G (acts (crashes k b) z) item a t = absurd (false≢true t)
-named_below n x G (acts (starts k b) z) item a t = absurd (false≢true t)
-named_below n x G (acts (delivers r p m) z) item a t =
-    subst (λ (i : ℕ). i < n) (eqb-true p.envelope.addressee x t) (G.addressed p m).addressee_below
+named_below n x {net = net} G (acts d z) item a t = go d t
+  where
+    go : {e : Event} {m : Reading} {k back : ℕ} {step : Step} → Decides net e m k back step → is_to x m ≡ true → x < n
+    go (writes k tag b) t = absurd (false≢true t)
+    go (retries k b) t = absurd (false≢true t)
+    go (crashes k b) t = absurd (false≢true t)
+    go (starts k b) t = absurd (false≢true t)
+    go (delivers r p m) t = subst (λ (i : ℕ). i < n) (eqb-true p.envelope.addressee x t) (G.addressed p m).addressee_below
 
 told_settles : (x : ℕ) {net net' : Network} {call : Call} → Next net call net' → (item : Item) → call.answer ≡ answer.Settled item
     → is_to x call.message ≡ true → told_by x call ≡ settles item
@@ -264,12 +267,15 @@ unfolding is_to
 told_settles x (host_refuses e m why z) item a t = clash (cc)
 told_settles x (node_refuses {step = step} d r) item a t = absurd (false≢true (sym (ap is_refused a) ∙ r))
 told_settles x (drops r) item a t = clash (cc)
-told_settles x (acts (writes k tag b) z) item a t = absurd (false≢true t)
-told_settles x (acts (retries k b) z) item a t = absurd (false≢true t)
-told_settles x (acts (crashes k b) z) item a t = absurd (false≢true t)
-told_settles x (acts (starts k b) z) item a t = absurd (false≢true t)
-told_settles x (acts (delivers r p m) z) item a t =
-    ap (note_of x p.envelope.addressee) a ∙ ap (λ (b : Bool). cond b (settles item) quiet) t
+told_settles x {net = net} (acts d z) item a t = go d a t
+  where
+    go : {e : Event} {m : Reading} {k back : ℕ} {step : Step} → Decides net e m k back step → step.answer ≡ answer.Settled item
+        → is_to x m ≡ true → told x e m step.answer ≡ settles item
+    go (writes k tag b) a t = absurd (false≢true t)
+    go (retries k b) a t = absurd (false≢true t)
+    go (crashes k b) a t = absurd (false≢true t)
+    go (starts k b) a t = absurd (false≢true t)
+    go (delivers r p m) a t = ap (note_of x p.envelope.addressee) a ∙ ap (λ (b : Bool). cond b (settles item) quiet) t
 
 -- nothing is written at set-up
 nobody_writes : (n x : ℕ) → Writes n x [] (fresh_network n)

@@ -1,3 +1,1 @@
 pub mod First
-pub mod Local
-pub mod Part

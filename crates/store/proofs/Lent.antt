@@ -1,13 +1,12 @@
 -- Lent bytes against records: a record read or written at its place in the bytes is the record of the list, and so are
 -- the head's fields. One law for each, cited wherever code over bytes meets a definition over records.
-use Prim.Native.Nat.{ℕ, zero, suc, ◌+◌, ◌-◌, ◌*◌, ◌≤◌, ◌<◌}
+use Prim.Native.Nat.{ℕ, suc, ◌+◌, ◌-◌, ◌*◌, ◌≤◌, ◌<◌}
 use mathlib.Core.Path.{◌≡◌, sym, ap, ◌∙◌}
 use mathlib.Core.Logic.{◌≢◌}
 use mathlib.Core.Bool.{Bool, true, false}
 use mathlib.Core.List.{List, [], ◌++◌}
 use native.Mathlib.Omega.{arith}
 use borrow.Author.Tests.{eq-eqb, ne_eqb}
-use lib.Dec.{eqb}
 use lib.ListN.{length, take, drop, get_or, set, length-set, drop_of_length-le, take-append-drop, get_or-eq_default}
 use lib.Seq.{get_or-take, take-take, set_out, set-append_left, length-take-le, take_all, drop-drop}
 use Rattle.endian.specs.Part.{part, whole}
@@ -21,7 +20,7 @@ use Rattle.record.proofs.ChunkLaws.{cut_chunk, cut_with}
 use Rattle.record.specs.Layout.{record_size, next_at, record_of, with_record, next_of}
 use Rattle.record.proofs.RecordLaws.{record_none, length_record_of, with_record_none}
 use Rattle.record.specs.Record.{with_next, no_record}
-use Rattle.store.specs.Records.{record_count, right_length, records_of, record_in, joined, on_records}
+use Rattle.store.specs.Records.{record_count, right_length, records_of, record_in, on_records}
 use Rattle.store.proofs.Joined.{records_count, joined_records}
 use Rattle.store.specs.Head.{free_at, spare_at, inbox_at, group_size, head_zero, with_first_free, with_first_of}
 use Rattle.store.specs.Chain.{next_in, walked, walk}

@@ -1,9 +1,6 @@
 pub mod CheckLaws
 pub mod Laws
 pub mod FillLaws
-pub mod Again
 pub mod Offsets
-pub mod Shared
 pub mod Size
-pub mod Walk
 pub mod Given

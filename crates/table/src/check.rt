@@ -15,6 +15,7 @@ fn and_sound(ok: bool, node: Node, i: usize, n: usize) -> bool
 }
 
 // Whether the table has n nodes and each is sound at its place.
+#[tactic(auto, unfolding(crate::proofs::CheckLaws::sound_to))]
 pub fn check_table(table: &[Node], n: usize) -> bool
     ensures { result ≡ sound_table n table.now }
 {

@@ -14,6 +14,7 @@ fn fresh_at(i: usize, n: usize) -> Node
 }
 
 // The first n nodes become those of a group of n as it is set up; a table of fewer nodes is filled to its end.
+#[tactic(auto, unfolding(crate::specs::Fill::fresh_to))]
 pub fn fill_table(table: &mut [Node], n: usize)
     ensures { table.new ≡ fresh_to n table.old n }
 {
