@@ -1,4 +1,4 @@
--- Laws of `part` and `withPart`, over the width: what is written is read back, nothing else changes, and two parts that
+-- Laws of `part` and `with_part`, over the width: what is written is read back, nothing else changes, and two parts that
 -- meet are one.
 use Prim.Native.Nat.{ℕ, zero, suc, ◌+◌, ◌-◌, ◌≤◌, ◌<◌}
 use mathlib.Core.Path.{◌≡◌, refl, sym, ap, ◌∙◌}

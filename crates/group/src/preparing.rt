@@ -44,7 +44,7 @@ fn prepare(s: &mut [u8], n: usize, nodes: usize) -> Prepared
 
 // A group of n is set up: every node Up and Idle, and every record of the store free.
 pub fn set_up(table: &mut [Node], store: &mut [u8], n: u64) -> Answer
-    ensures { (result ≡ (operation.setUp n table.old store.old).answer) × ((table.new ≡ (operation.setUp n table.old store.old).table) × (store.new ≡ (operation.setUp n table.old store.old).store)) }
+    ensures { (result ≡ (operation.set_up n table.old store.old).answer) × ((table.new ≡ (operation.set_up n table.old store.old).table) × (store.new ≡ (operation.set_up n table.old store.old).store)) }
 {
     let prepared = prepare(store, n as usize, table.len());
     table::fill_table(table, prepared.fresh);

@@ -1,4 +1,4 @@
--- `everyFrom`: kept when one element is set to one that passes the test, and true of a list of one element that does. And the
+-- `every_from`: kept when one element is set to one that passes the test, and true of a list of one element that does. And the
 -- count of peers when one more is present.
 use Prim.Native.Nat.{ℕ, zero, suc, ◌+◌, ◌≤◌, ◌<◌}
 use native.Mathlib.Omega.{arith}

@@ -1,5 +1,5 @@
 -- What a row is after any tables, in the order in which they were counted (document 01: "the first table is taken whole,
--- and later a row is marked while its greatest index has come with two tags (the first tag is kept)"). `cameRow` says it
+-- and later a row is marked while its greatest index has come with two tags (the first tag is kept)"). `came_row` says it
 -- of the whole list of the items that came for the row, with no merge.
 use Rattle.std.specs.Prelude.{ℕ, zero, max, ◌≡◌, Bool, true, false, cond, not, ◌&&◌, ◌||◌, List, [], ◌∷◌, eqb}
 use Rattle.item.specs.Item.{tags_agree}

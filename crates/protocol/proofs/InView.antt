@@ -1,5 +1,5 @@
 -- The premises of every tie lemma, gathered in two records: a node k at its place as x's view shows it, and a message that came to
--- it. What `soundNode` and `validSize` say is read off here once.
+-- it. What `sound_node` and `valid_size` say is read off here once.
 use Prim.Native.Nat.{ℕ, suc, ◌+◌, ◌%◌, ◌≤◌, ◌<◌}
 use native.Mathlib.Omega.{arith}
 use mathlib.Core.Path.{◌≡◌, refl}

@@ -1,4 +1,4 @@
--- A node's decision refuses only with the refusals that `byDecision` names: each decision's list of numbers is within theirs.
+-- A node's decision refuses only with the refusals that `by_decision` names: each decision's list of numbers is within theirs.
 use Prim.Native.Nat.{ℕ}
 use mathlib.Core.Path.{◌≡◌, refl}
 use mathlib.Core.Bool.{Bool, true, false≢true}

@@ -1,5 +1,5 @@
 -- What a decision sends, in x's view, for each of the ways to send: nothing, to all others, back to the sender, to the peers
--- asked. An outgoing message is the one to some node `to` that `goesTo` allows.
+-- asked. An outgoing message is the one to some node `to` that `goes_to` allows.
 use Prim.Native.Nat.{ℕ, zero, suc}
 use mathlib.Core.Path.{◌≡◌, refl, sym, ap, ◌∙◌, subst, subst₂}
 use mathlib.Core.Logic.{◌⊎◌, inl, inr}

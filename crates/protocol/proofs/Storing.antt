@@ -1,4 +1,4 @@
--- Delivery of Store and Stored. A Store from x is the relation's `atStore`, one of another writer leaves row x alone; a Stored
+-- Delivery of Store and Stored. A Store from x is the relation's `at_store`, one of another writer leaves row x alone; a Stored
 -- is counted by x, and the f-th begins to confirm.
 use Prim.Native.Nat.{ℕ, ◌<◌}
 use native.Mathlib.Omega.{arith}

@@ -1,4 +1,4 @@
--- What a call tells of x, as a note, against the words of the claim: the note moves the history as `lastAfter` and `begunAt`
+-- What a call tells of x, as a note, against the words of the claim: the note moves the history as `last_after` and `begun_at`
 -- do, and a return is the note `returns`.
 use Prim.Native.Nat.{ℕ}
 use mathlib.Core.Path.{◌≡◌, refl, sym, ap, subst, ◌∙◌}

@@ -56,7 +56,7 @@ pub struct Node {
     pub asked: [Peer; Node::MAX_ROWS],
 }
 
-// Why a call is refused. `refusalNumber` gives document 01's number of each.
+// Why a call is refused. `refusal_number` gives document 01's number of each.
 #[derive(Clone, Copy)]
 pub enum Refusal {
     // 1: n is not valid, or the table has not n nodes.

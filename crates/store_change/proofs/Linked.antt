@@ -1,6 +1,6 @@
 -- Set-up: the records of zero bytes, a turn of the loop that links them, and the head at the end. Everything is over the
 -- number of records.
-use Rattle.std.proofs.Common.{◌≡◌, ℕ, zero, suc, ◌+◌, ◌-◌, ◌*◌, ◌<◌, ◌≤◌, List, [], ◌∷◌, ◌++◌, length, get_or, take, drop, set, replicate, sym, refl, ap, ◌∙◌, not-suc-le-zero, suc-mul, add_comm, add-one, arith, drop_of_length-le, length-take-le, drop-cons, take-suc, take_at, drop_at}
+use Rattle.std.proofs.Common.{◌≡◌, ℕ, zero, suc, ◌+◌, ◌*◌, ◌<◌, ◌≤◌, List, [], ◌∷◌, ◌++◌, length, get_or, take, drop, set, replicate, sym, refl, ap, ◌∙◌, not-suc-le-zero, suc-mul, add_comm, add-one, arith, drop_of_length-le, length-take-le, drop-cons, take-suc, take_at, drop_at}
 use lib.ListN.{length-replicate, get_or-replicate, replicate-append-replicate}
 use lib.Seq.{append_snoc, set_at, get_or_at, split_at}
 use Rattle.endian.specs.Part.{with_part}

@@ -8,7 +8,6 @@ use Rattle.sender_view.specs.Decision.{step_by}
 use Rattle.engine.specs.Decided.{decided_step}
 use Rattle.engine.proofs.Agree.{found_agrees}
 use mathlib.Core.Path.{sym, ap, ◌∙◌}
-use borrow.Author.Rules.{rules}
 use Rattle.delivering.proofs.deliver_message.Goals as goal
 
 pub returns-in_default : goal.returns-in_default

@@ -1,13 +1,8 @@
 -- `node_sound::all_among_asked` meets its contract: at place k the counted from k on tell the answer.
 use Prim.Native.Nat.{◌-◌}
-use mathlib.Core.Path.{refl}
-use native.Mathlib.Omega.{arith}
-use borrow.Author.Rules.{rules}
 use Rattle.item.specs.Maxima.{max_nodes}
-use Rattle.protocol.specs.Node.{no_peer}
 use Rattle.protocol.specs.Sound.{among_asked}
-use Rattle.node.proofs.Array.{length_mapped}
-use Rattle.node_sound.proofs.Every.{RestTells, every_fails, every_passes, every_passed}
+use Rattle.node_sound.proofs.Every.{RestTells}
 use Rattle.node_sound.proofs.all_among_asked.Given as goal
 
 abbrev pub invariant-loop-k : goal.invariant-loop-k

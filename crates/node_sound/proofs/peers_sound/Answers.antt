@@ -1,12 +1,9 @@
-use Prim.Native.Nat.{◌-◌}
 use mathlib.Core.Path.{refl}
 use native.Mathlib.Omega.{arith}
-use borrow.Author.Rules.{rules}
-use Rattle.item.specs.Maxima.{max_nodes}
 use Rattle.protocol.specs.Node.{no_peer}
 use Rattle.protocol.specs.Sound.{peer_sound, peers_sound}
 use Rattle.node.proofs.Array.{length_mapped}
-use Rattle.node_sound.proofs.Every.{RestTells, every_fails, every_passes, every_passed}
+use Rattle.node_sound.proofs.Every.{every_fails, every_passes, every_passed}
 use Rattle.node_sound.proofs.peers_sound.Goals as goal
 
 pub loop-k-init : goal.loop-k-init

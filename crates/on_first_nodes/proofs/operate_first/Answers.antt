@@ -1,5 +1,5 @@
 -- The first nodes are lent as the table to the group's `set_up`, or to its `perform`, and come back before the others.
-use Rattle.std.proofs.Common.{◌≤◌, length, take, sym, arith}
+use Rattle.std.proofs.Common.{◌≤◌, length, take, sym}
 use Rattle.std.proofs.lemmas.List.{length-take-le}
 use Rattle.on_first_nodes.proofs.First.{first_few, begins_gives, event_gives, first_gives}
 use Rattle.on_first_nodes.proofs.operate_first.Goals as goal

@@ -1,4 +1,4 @@
-use Rattle.std.proofs.Common.{◌≡◌, ◌-◌, ◌≤◌, length, take, refl, ap, ◌∙◌, arith, take_all, rules}
+use Rattle.std.proofs.Common.{refl, ap, ◌∙◌, arith, take_all}
 use Rattle.store.specs.Sound.{all_passed}
 use Rattle.store_check.proofs.Passing.{passed_more}
 use Rattle.store_check.proofs.all_passed.Goals as goal

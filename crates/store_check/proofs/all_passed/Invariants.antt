@@ -1,7 +1,6 @@
 -- `store_check::all_passed` meets its contract. The invariant: what is joined so far says of the records looked at whether all were passed.
-use Rattle.std.proofs.Common.{◌≡◌, ◌-◌, ◌≤◌, length, take, refl, ap, ◌∙◌, arith, take_all, rules}
+use Rattle.std.proofs.Common.{◌≡◌, ◌-◌, ◌≤◌, length, take}
 use Rattle.store.specs.Sound.{all_passed}
-use Rattle.store_check.proofs.Passing.{passed_more}
 use Rattle.store_check.proofs.all_passed.Given as goal
 
 abbrev pub invariant-loop-i : goal.invariant-loop-i

@@ -1,5 +1,5 @@
 -- `store_check::check_store` meets its contract: each way out by one law of `Passing`, the last two by the same.
-use Rattle.std.proofs.Common.{◌-◌, length, sym, ◌∙◌, rules, ne_eqb}
+use Rattle.std.proofs.Common.{length, sym, ◌∙◌, ne_eqb}
 use Rattle.item.specs.Tests.{refuted, granted}
 use borrow.Author.Tests.{not-true, not-false}
 use Rattle.store.specs.Records.{right_length}

@@ -1,7 +1,6 @@
-use Rattle.std.proofs.Common.{◌≡◌, ℕ, ◌-◌, ◌*◌, ◌≤◌, length, sym, refl, ap, ◌∙◌, arith, rules}
+use Rattle.std.proofs.Common.{◌≡◌, ℕ, ◌-◌, sym, refl, ap, ◌∙◌, arith, rules}
 use borrow.Author.Tests.{not-true, not-false}
-use Rattle.record.specs.Layout.{record_size}
-use Rattle.store.specs.Records.{record_count, records_of}
+use Rattle.store.specs.Records.{records_of}
 use Rattle.store.specs.Chain.{walked}
 use Rattle.store.specs.Sound.{walk_inboxes}
 use Rattle.store_check.proofs.Passing.{inboxes_stop, inboxes_out, inboxes_turn}

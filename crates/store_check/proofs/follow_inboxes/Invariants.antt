@@ -1,11 +1,9 @@
 -- `store_check::follow_inboxes` meets its contract. The invariant: what is left to follow gives the answer.
-use Rattle.std.proofs.Common.{◌≡◌, ℕ, ◌-◌, ◌*◌, ◌≤◌, length, sym, refl, ap, ◌∙◌, arith, rules}
-use borrow.Author.Tests.{not-true, not-false}
+use Rattle.std.proofs.Common.{◌≡◌, ◌-◌, ◌*◌, ◌≤◌, length}
 use Rattle.record.specs.Layout.{record_size}
 use Rattle.store.specs.Records.{record_count, records_of}
 use Rattle.store.specs.Chain.{walked}
 use Rattle.store.specs.Sound.{walk_inboxes}
-use Rattle.store_check.proofs.Passing.{inboxes_stop, inboxes_out, inboxes_turn}
 use Rattle.store_check.proofs.follow_inboxes.Given as goal
 
 abbrev pub invariant-loop-k : goal.invariant-loop-k

@@ -2,7 +2,7 @@
 use Rattle.endian.specs.Zero.{all_zero}
 use Rattle.store.proofs.Lent.{head_rest, head_rest_none, head_zero_is, head_spare}
 use Rattle.store.specs.Head.{inbox_at}
-use Rattle.std.proofs.Common.{◌+◌, ◌-◌, ◌*◌, sym, ap, ◌∙◌, arith, rules}
+use Rattle.std.proofs.Common.{◌+◌, ◌*◌, sym, ap, ◌∙◌, arith}
 use Rattle.store_check.proofs.head_zero.Goals as goal
 
 pub returns-then-s-ne0 : goal.returns-then-s-ne0

@@ -6,7 +6,6 @@ use Rattle.protocol.specs.declared.Node.{Node}
 use native.Mathlib.Omega.{arith}
 use Rattle.event.specs.Act.{Outcome, handed_back}
 use mathlib.Core.Path.{sym, ap, ◌∙◌}
-use borrow.Author.Rules.{rules}
 use Rattle.event.proofs.commit.carry_decision.Goals as goal
 
 pub returns-then-is_refused : goal.returns-then-is_refused

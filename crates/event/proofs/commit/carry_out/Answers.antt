@@ -4,7 +4,6 @@ use Rattle.node.proofs.Answered.{answered}
 use native.Mathlib.Omega.{arith}
 use Rattle.event.specs.Act.{Outcome, handed_back}
 use mathlib.Core.Path.{sym, ap, ◌∙◌}
-use borrow.Author.Rules.{rules}
 use Rattle.event.proofs.commit.carry_out.Goals as goal
 
 pub returns-then-is_refused : goal.returns-then-is_refused

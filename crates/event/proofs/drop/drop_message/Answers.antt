@@ -2,7 +2,6 @@
 use Rattle.event.proofs.Laws.{dropped_none, dropped_some}
 use Rattle.event.specs.Act.{Outcome}
 use mathlib.Core.Path.{sym, ap, ◌∙◌}
-use borrow.Author.Rules.{rules}
 use Rattle.event.proofs.drop.drop_message.Goals as goal
 
 pub returns-in_default : goal.returns-in_default

@@ -3,7 +3,6 @@ use Rattle.event.proofs.Laws.{acted_refused, acted_taken, sound_drop}
 use Rattle.event.specs.Act.{Outcome}
 use Rattle.protocol.specs.declared.Event.TheVariants as event
 use mathlib.Core.Path.{refl, sym, ap, ◌∙◌}
-use borrow.Author.Rules.{rules}
 use Rattle.event.proofs.drop.drop_record.Goals as goal
 
 pub returns-in-Refuse : goal.returns-in-Refuse

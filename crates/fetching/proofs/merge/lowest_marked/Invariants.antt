@@ -2,12 +2,8 @@
 use Prim.Native.Nat.{◌≤◌, ◌-◌, ◌+◌}
 use mathlib.Core.Path.{◌≡◌}
 use lib.ListN.{length, drop}
-use native.Mathlib.Omega.{arith}
-use borrow.Author.Rules.{rules}
 use Rattle.item.specs.Maxima.{max_nodes}
 use Rattle.protocol.specs.Merge.{lowest_marked}
-use Rattle.node.proofs.Array.{length_mapped}
-use Rattle.fetching.proofs.Marks.{lowest_here, lowest_next, lowest_none}
 use Rattle.fetching.proofs.merge.lowest_marked.Given as goal
 
 abbrev pub invariant-loop-k : goal.invariant-loop-k

@@ -1,8 +1,5 @@
-use Prim.Native.Nat.{◌≤◌, ◌-◌}
 use mathlib.Core.Path.{◌≡◌, refl}
-use lib.ListN.{length}
 use native.Mathlib.Omega.{arith}
-use borrow.Author.Rules.{rules}
 use Rattle.item.specs.Maxima.{max_nodes}
 use Rattle.item.specs.Row.{zero_row}
 use Rattle.item.specs.Item.{zero_item}

@@ -1,10 +1,6 @@
 use Rattle.node.proofs.Count.{count_present, count_absent, count_end}
 use Rattle.node.proofs.Array.{length_mapped}
-use Rattle.protocol.specs.Node.{count_peers}
 use native.Mathlib.Omega.{arith}
-use lib.ListN.{length, drop}
-use mathlib.Core.Path.{◌≡◌}
-use Prim.Native.Nat.{◌≤◌, ◌-◌, ◌+◌}
 use borrow.Author.Rules.{rules}
 use Rattle.node.proofs.peers.count_peers.Goals as goal
 use Rattle.node.proofs.peers.count_peers.Goals.{then-peers-i, else-peers-i}
@@ -17,8 +13,8 @@ loop-i-preserved c =
     let ps = c.args.peers in
     let i = c.loop-i.i in
     elim c.if-peers-i.branch [
-      then-peers-i w ↦ (omega arith, search rules, omega arith, omega (arith, count_present ps i (omega arith) w.if-peers-i.true))
-    | else-peers-i w ↦ (omega arith, search rules, omega arith, omega (arith, count_absent ps i (omega arith) w.if-peers-i.false))
+      | then-peers-i w ↦ (omega arith, search rules, omega arith, omega (arith, count_present ps i (omega arith) w.if-peers-i.true))
+      | else-peers-i w ↦ (omega arith, search rules, omega arith, omega (arith, count_absent ps i (omega arith) w.if-peers-i.false))
     ]
 
 pub returns : goal.returns

@@ -1,14 +1,9 @@
 -- `node::peers::count_peers` meets its contract. Invariant: those passed, with those that the rest of the list has, are all
 -- that are present.
-use Rattle.node.proofs.Count.{count_present, count_absent, count_end}
-use Rattle.node.proofs.Array.{length_mapped}
 use Rattle.protocol.specs.Node.{count_peers}
-use native.Mathlib.Omega.{arith}
 use lib.ListN.{length, drop}
-use mathlib.Core.Logic.{⊎_elim}
 use mathlib.Core.Path.{◌≡◌}
 use Prim.Native.Nat.{◌≤◌, ◌-◌, ◌+◌}
-use borrow.Author.Rules.{rules}
 use Rattle.node.proofs.peers.count_peers.Given as goal
 
 abbrev pub invariant-loop-i : goal.invariant-loop-i

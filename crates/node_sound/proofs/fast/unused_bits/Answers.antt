@@ -5,7 +5,6 @@ use mathlib.Core.Bool.{Bool, ◌&&◌, and_assoc}
 use lib.Bits.{bit_or}
 use lib.Dec.{eqb}
 use native.Mathlib.Omega.{arith}
-use borrow.Author.Rules.{rules}
 use borrow.Author.Tests.{lt-ltb, le-ltb}
 use Rattle.item.specs.Counter.{same_incarnation, same_attempt}
 use Rattle.endian.proofs.ZeroLaws.{or_zero}

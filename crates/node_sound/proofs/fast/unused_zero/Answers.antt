@@ -1,14 +1,11 @@
-use Prim.Native.Nat.{◌-◌}
 use lib.Dec.{eqb}
 use mathlib.Core.Path.{refl}
 use native.Mathlib.Omega.{arith}
-use borrow.Author.Rules.{rules}
 use Rattle.endian.proofs.ZeroLaws.{or_zero}
-use Rattle.item.specs.Maxima.{max_nodes}
 use Rattle.item.specs.Row.{zero_row}
 use Rattle.protocol.specs.Sound.{every_from}
 use Rattle.node.proofs.Array.{length_mapped}
-use Rattle.node_sound.proofs.Every.{Joined, joined_more, joined_all}
+use Rattle.node_sound.proofs.Every.{joined_more, joined_all}
 use Rattle.node_sound.specs.Rest.{unused_row_zero, unused_zero}
 use Rattle.node_sound.proofs.fast.unused_zero.Goals as goal
 

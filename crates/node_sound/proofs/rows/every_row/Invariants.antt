@@ -1,13 +1,8 @@
 -- `node_sound::rows::every_row` meets its contract: at place k the rows from k on tell the answer.
 use Prim.Native.Nat.{◌-◌}
-use mathlib.Core.Path.{refl}
-use native.Mathlib.Omega.{arith}
-use borrow.Author.Rules.{rules}
 use Rattle.item.specs.Maxima.{max_nodes}
-use Rattle.item.specs.Row.{zero_row}
 use Rattle.protocol.specs.Sound.{row_sound}
-use Rattle.node.proofs.Array.{length_mapped}
-use Rattle.node_sound.proofs.Every.{RestTells, every_fails, every_passes, every_passed}
+use Rattle.node_sound.proofs.Every.{RestTells}
 use Rattle.node_sound.proofs.rows.every_row.Given as goal
 
 abbrev pub invariant-loop-k : goal.invariant-loop-k

@@ -1,12 +1,8 @@
-use Prim.Native.Nat.{◌+◌, ◌-◌, ◌≤◌}
-use mathlib.Core.Path.{◌≡◌, ap, ◌∙◌}
+use mathlib.Core.Path.{ap, ◌∙◌}
 use mathlib.Core.Bool.{Bool, cond}
 use native.Mathlib.Omega.{arith}
-use Rattle.item.specs.Maxima.{max_nodes}
 use Rattle.protocol.specs.Outgoing.{outgoing}
-use Rattle.store.specs.Change.{count_outgoing}
-use Rattle.outbox.proofs.Places.{outgoing_left, count_turn, count_end}
-use borrow.Author.Rules.{rules}
+use Rattle.outbox.proofs.Places.{count_turn, count_end}
 use Rattle.outbox.proofs.outgoing.count_sent.Goals as goal
 
 pub loop-k-init : goal.loop-k-init

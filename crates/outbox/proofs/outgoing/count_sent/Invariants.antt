@@ -1,13 +1,10 @@
 -- `outbox::outgoing::count_sent` meets its contract. The invariant: those counted and those left are all.
 use Prim.Native.Nat.{◌+◌, ◌-◌, ◌≤◌}
-use mathlib.Core.Path.{◌≡◌, ap, ◌∙◌}
-use mathlib.Core.Bool.{Bool, cond}
-use native.Mathlib.Omega.{arith}
+use mathlib.Core.Path.{◌≡◌}
 use Rattle.item.specs.Maxima.{max_nodes}
 use Rattle.protocol.specs.Outgoing.{outgoing}
 use Rattle.store.specs.Change.{count_outgoing}
-use Rattle.outbox.proofs.Places.{outgoing_left, count_turn, count_end}
-use borrow.Author.Rules.{rules}
+use Rattle.outbox.proofs.Places.{outgoing_left}
 use Rattle.outbox.proofs.outgoing.count_sent.Given as goal
 
 abbrev pub invariant-loop-k : goal.invariant-loop-k

@@ -1,12 +1,8 @@
 use Rattle.outbox.proofs.Places.{items_turn, items_end}
-use Rattle.protocol.specs.Node.{row_items}
 use Rattle.node.proofs.Array.{length_mapped}
-use Rattle.item.specs.Maxima.{max_nodes}
-use lib.ListN.{length, take, length-set}
+use lib.ListN.{length-set}
 use native.Mathlib.Omega.{arith}
-use mathlib.Core.Path.{◌≡◌, refl, ap, ◌∙◌}
-use Prim.Native.Nat.{◌≤◌, ◌-◌}
-use borrow.Author.Rules.{rules}
+use mathlib.Core.Path.{refl, ◌∙◌}
 use Rattle.outbox.proofs.outgoing.row_items.Goals as goal
 
 pub loop-i-init : goal.loop-i-init

@@ -1,13 +1,9 @@
 -- `outbox::outgoing::row_items` meets its contract. The invariant: the first i items are those of the rows.
-use Rattle.outbox.proofs.Places.{items_turn, items_end}
 use Rattle.protocol.specs.Node.{row_items}
-use Rattle.node.proofs.Array.{length_mapped}
 use Rattle.item.specs.Maxima.{max_nodes}
-use lib.ListN.{length, take, length-set}
-use native.Mathlib.Omega.{arith}
-use mathlib.Core.Path.{◌≡◌, refl, ap, ◌∙◌}
+use lib.ListN.{length, take}
+use mathlib.Core.Path.{◌≡◌}
 use Prim.Native.Nat.{◌≤◌, ◌-◌}
-use borrow.Author.Rules.{rules}
 use Rattle.outbox.proofs.outgoing.row_items.Given as goal
 
 abbrev pub invariant-loop-i : goal.invariant-loop-i

@@ -1,12 +1,9 @@
-use Prim.Native.Nat.{◌-◌, ◌≤◌}
-use mathlib.Core.Path.{◌≡◌, refl, sym, ◌∙◌}
+use mathlib.Core.Path.{refl, sym, ◌∙◌}
 use native.Mathlib.Omega.{arith}
-use lib.ListN.{length}
-use Rattle.item.specs.Maxima.{max_nodes}
 use Rattle.store.specs.Records.{on_records}
 use Rattle.store.specs.Change.{put_each}
 use Rattle.protocol.specs.Outgoing.{outgoing}
-use Rattle.outbox.proofs.Places.{outgoing_left, left_cons, left_none}
+use Rattle.outbox.proofs.Places.{left_cons, left_none}
 use Rattle.outbox.proofs.Each.{put_turn, put_end}
 use borrow.Author.Rules.{rules}
 use Rattle.outbox.proofs.put.send_each.Goals as goal

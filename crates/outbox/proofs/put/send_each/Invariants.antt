@@ -1,15 +1,12 @@
 -- `outbox::put::send_each` meets its contract. The invariant: the messages that are left give the answer.
 use Prim.Native.Nat.{◌-◌, ◌≤◌}
-use mathlib.Core.Path.{◌≡◌, refl, sym, ◌∙◌}
-use native.Mathlib.Omega.{arith}
+use mathlib.Core.Path.{◌≡◌}
 use lib.ListN.{length}
 use Rattle.item.specs.Maxima.{max_nodes}
 use Rattle.store.specs.Records.{on_records}
 use Rattle.store.specs.Change.{put_each}
 use Rattle.protocol.specs.Outgoing.{outgoing}
-use Rattle.outbox.proofs.Places.{outgoing_left, left_cons, left_none}
-use Rattle.outbox.proofs.Each.{put_turn, put_end}
-use borrow.Author.Rules.{rules}
+use Rattle.outbox.proofs.Places.{outgoing_left}
 use Rattle.outbox.proofs.put.send_each.Given as goal
 
 abbrev pub invariant-loop-k : goal.invariant-loop-k

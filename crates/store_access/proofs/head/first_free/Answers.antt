@@ -3,8 +3,6 @@ use Rattle.store.proofs.Lent.{head_number}
 use Rattle.store.specs.Head.{first_free}
 use native.Mathlib.Omega.{arith}
 use mathlib.Core.Path.{◌∙◌}
-use Prim.Native.Nat.{◌-◌}
-use borrow.Author.Rules.{rules}
 use Rattle.store_access.proofs.head.first_free.Goals as goal
 
 pub returns : goal.returns

@@ -3,8 +3,7 @@ use Rattle.store.proofs.Lent.{head_number, head_none}
 use Rattle.store.specs.Head.{first_of, inbox_at}
 use native.Mathlib.Omega.{arith}
 use mathlib.Core.Path.{sym, ◌∙◌}
-use Prim.Native.Nat.{◌+◌, ◌-◌, ◌*◌}
-use borrow.Author.Rules.{rules}
+use Prim.Native.Nat.{◌+◌, ◌*◌}
 use Rattle.store_access.proofs.head.first_of.Goals as goal
 
 pub returns-then-k-ge-INBOXES : goal.returns-then-k-ge-INBOXES

@@ -4,8 +4,6 @@ use Rattle.store.proofs.Lent.{head_byte}
 use Rattle.store.specs.Head.{group_size, size_at}
 use native.Mathlib.Omega.{arith}
 use mathlib.Core.Path.{sym, ◌∙◌}
-use Prim.Native.Nat.{◌-◌}
-use borrow.Author.Rules.{rules}
 use Rattle.store_access.proofs.head.group_size.Goals as goal
 
 pub returns-then-s-le-SIZE_AT : goal.returns-then-s-le-SIZE_AT

@@ -4,8 +4,6 @@ use Rattle.store.proofs.Lent.{head_set}
 use Rattle.store.specs.Head.{size_at}
 use native.Mathlib.Omega.{arith}
 use mathlib.Core.Path.{sym}
-use Prim.Native.Nat.{◌-◌}
-use borrow.Author.Rules.{rules}
 use Rattle.store_access.proofs.head.set_group_size.Goals as goal
 
 pub returns-then-s-lt-SIZE : goal.returns-then-s-lt-SIZE

@@ -4,8 +4,6 @@ use Rattle.store.proofs.Lent.{right, record_in_lem}
 use Rattle.store.specs.Sound.{message_at, message_in}
 use Rattle.store.specs.Records.{right_length}
 use lib.ListN.{length}
-use Prim.Native.Nat.{◌-◌}
-use borrow.Author.Rules.{rules}
 use Rattle.store_access.proofs.inbox.message.Goals as goal
 
 pub returns-then-s-ne-LENGTH : goal.returns-then-s-ne-LENGTH

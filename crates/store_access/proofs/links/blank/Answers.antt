@@ -6,7 +6,6 @@ use lib.ListN.{length, drop, length-drop}
 use lib.Seq.{take_all}
 use Rattle.endian.specs.Zero.{all_zero}
 use Rattle.store_access.proofs.Parts.{blank_first, blank_second, blank_rest}
-use borrow.Author.Rules.{rules}
 use Rattle.store_access.proofs.links.blank.Goals as goal
 
 pub returns-then-read_u64-next : goal.returns-then-read_u64-next

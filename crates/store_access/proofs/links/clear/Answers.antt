@@ -8,7 +8,6 @@ use borrow.Rule.Slice.PartMut.{put_mid}
 use Rattle.endian.specs.Zero.{zeros}
 use Rattle.record.specs.Layout.{record_size}
 use Rattle.record.proofs.RecordLaws.{length_record_of, record_lent, record_back, with_record_none}
-use borrow.Author.Rules.{rules}
 use Rattle.store_access.proofs.links.clear.Goals as goal
 
 pub returns-then-s-i : goal.returns-then-s-i

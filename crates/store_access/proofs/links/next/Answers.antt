@@ -5,7 +5,6 @@ use Rattle.record.specs.Layout.{next_of}
 use native.Mathlib.Omega.{arith}
 use mathlib.Core.Path.{ap, ◌∙◌}
 use Rattle.record.proofs.RecordLaws.{record_none, record_lent}
-use borrow.Author.Rules.{rules}
 use Rattle.store_access.proofs.links.next.Goals as goal
 
 pub returns-then-s-i : goal.returns-then-s-i

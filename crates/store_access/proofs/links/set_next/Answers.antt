@@ -3,7 +3,6 @@ use Rattle.record.specs.Record.{with_next}
 use native.Mathlib.Omega.{arith}
 use mathlib.Core.Path.{sym}
 use Rattle.record.proofs.RecordLaws.{with_low, record_lent, record_back, with_record_none}
-use borrow.Author.Rules.{rules}
 use Rattle.store_access.proofs.links.set_next.Goals as goal
 
 pub returns-then-s-i : goal.returns-then-s-i

@@ -8,7 +8,6 @@ use mathlib.Core.List.{List}
 use lib.ListN.{drop}
 use Prim.Native.Nat.{ℕ}
 use Rattle.record.proofs.RecordLaws.{record_none, length_record_of, record_lent}
-use borrow.Author.Rules.{rules}
 use Rattle.store_access.proofs.links.zero_after_next.Goals as goal
 
 pub returns-then-s-i : goal.returns-then-s-i

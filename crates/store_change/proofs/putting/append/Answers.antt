@@ -1,5 +1,5 @@
 -- `store_change::putting::append` meets its contract: an empty inbox gets its first record, else the last record its next.
-use Rattle.std.proofs.Common.{ℕ, ◌-◌, sym, ap, ◌∙◌, rules, eq-eqb, ne_eqb}
+use Rattle.std.proofs.Common.{ℕ, sym, ap, ◌∙◌, eq-eqb, ne_eqb}
 use Rattle.store.specs.Records.{records_of, record_count}
 use Rattle.store.proofs.Joined.{records_count}
 use Rattle.store.specs.Head.{first_of}

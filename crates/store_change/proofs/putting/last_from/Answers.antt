@@ -1,6 +1,5 @@
-use Rattle.std.proofs.Common.{◌≡◌, ◌-◌, ◌≤◌, sym, refl, ap, ◌∙◌, arith, rules}
-use Rattle.store.specs.Records.{records_of, record_count}
-use Rattle.store.specs.Chain.{last_from}
+use Rattle.std.proofs.Common.{sym, refl, ◌∙◌, arith}
+use Rattle.store.specs.Records.{records_of}
 use Rattle.store.proofs.Lent.{next_in_lem}
 use Rattle.store_change.proofs.Search.{last_end, last_turn, last_out}
 use Rattle.store_change.proofs.putting.last_from.Goals as goal

@@ -1,9 +1,7 @@
 -- `store_change::putting::last_from` meets its contract. The invariant: what is left to search gives the answer.
-use Rattle.std.proofs.Common.{◌≡◌, ◌-◌, ◌≤◌, sym, refl, ap, ◌∙◌, arith, rules}
+use Rattle.std.proofs.Common.{◌≡◌, ◌≤◌}
 use Rattle.store.specs.Records.{records_of, record_count}
 use Rattle.store.specs.Chain.{last_from}
-use Rattle.store.proofs.Lent.{next_in_lem}
-use Rattle.store_change.proofs.Search.{last_end, last_turn, last_out}
 use Rattle.store_change.proofs.putting.last_from.Given as goal
 
 abbrev pub invariant-loop-left : goal.invariant-loop-left

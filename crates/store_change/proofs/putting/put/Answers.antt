@@ -1,6 +1,6 @@
 -- `store_change::putting::put` meets its contract: bytes of another length stay as they are, else the message is taken and appended,
 -- unless no record is free.
-use Rattle.std.proofs.Common.{ℕ, ◌-◌, List, sym, ap, ◌∙◌, rules, eq-eqb, ne_eqb}
+use Rattle.std.proofs.Common.{ℕ, List, sym, ◌∙◌, rules, eq-eqb, ne_eqb}
 use Rattle.store.specs.Records.{records_of}
 use Rattle.store.specs.Head.{first_free}
 use Rattle.store.specs.Change.{put_in, appended}

@@ -1,5 +1,5 @@
 -- `store_change::putting::take_free` meets its contract: the free chain goes on behind its first record, and that is written.
-use Rattle.std.proofs.Common.{◌-◌, set, ap, ◌∙◌, rules}
+use Rattle.std.proofs.Common.{set, ap, ◌∙◌, rules}
 use Rattle.store.specs.Records.{records_of}
 use Rattle.record.specs.Record.{record_bytes}
 use Rattle.store.specs.Head.{with_first_free}

@@ -1,6 +1,5 @@
-use Rattle.std.proofs.Common.{◌≡◌, ◌-◌, ◌≤◌, sym, refl, ap, ◌∙◌, arith, rules}
-use Rattle.store.specs.Records.{records_of, record_count}
-use Rattle.store.specs.Chain.{before_from}
+use Rattle.std.proofs.Common.{sym, refl, ◌∙◌, arith}
+use Rattle.store.specs.Records.{records_of}
 use Rattle.store.proofs.Lent.{next_in_lem}
 use Rattle.store_change.proofs.RemovingSearch.{before_end, before_found, before_turn, before_out}
 use Rattle.store_change.proofs.removing.before_from.Goals as goal

@@ -1,9 +1,7 @@
 -- `store_change::removing::before_from` meets its contract. The invariant: what is left to search gives the answer.
-use Rattle.std.proofs.Common.{◌≡◌, ◌-◌, ◌≤◌, sym, refl, ap, ◌∙◌, arith, rules}
+use Rattle.std.proofs.Common.{◌≡◌, ◌≤◌}
 use Rattle.store.specs.Records.{records_of, record_count}
 use Rattle.store.specs.Chain.{before_from}
-use Rattle.store.proofs.Lent.{next_in_lem}
-use Rattle.store_change.proofs.RemovingSearch.{before_end, before_found, before_turn, before_out}
 use Rattle.store_change.proofs.removing.before_from.Given as goal
 
 abbrev pub invariant-loop-left : goal.invariant-loop-left

@@ -1,5 +1,5 @@
 -- `store_change::removing::drop_message` meets its contract: bytes of another length stay as they are, else the change of the records is one of the bytes.
-use Rattle.std.proofs.Common.{ℕ, ◌-◌, List, ap, ◌∙◌, rules}
+use Rattle.std.proofs.Common.{ℕ, List, ap, ◌∙◌, rules}
 use Rattle.store.proofs.Lent.{changed, unchanged}
 use Rattle.store.specs.Change.{freed, drop_in}
 use Rattle.store_change.proofs.removing.drop_message.Goals as goal

@@ -1,5 +1,5 @@
 -- `store_change::removing::free` meets its contract: cleared, linked before the free records, and made the first of them.
-use Rattle.std.proofs.Common.{ℕ, ◌-◌, List, set, ap, ◌∙◌, rules}
+use Rattle.std.proofs.Common.{ℕ, List, set, ap, ◌∙◌, rules}
 use Rattle.store.specs.Records.{records_of}
 use Rattle.record.specs.Record.{with_next, no_record}
 use Rattle.store.specs.Head.{with_first_free}

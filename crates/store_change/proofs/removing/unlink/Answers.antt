@@ -1,5 +1,5 @@
 -- `store_change::removing::unlink` meets its contract: the inbox begins with the next of its first record, or the record before gets it.
-use Rattle.std.proofs.Common.{◌-◌, sym, ap, ◌∙◌, rules, eq-eqb, ne_eqb}
+use Rattle.std.proofs.Common.{sym, ap, ◌∙◌, eq-eqb, ne_eqb}
 use Rattle.store.specs.Records.{records_of, record_count}
 use Rattle.store.proofs.Joined.{records_count}
 use Rattle.store.specs.Head.{first_of, with_first_of}

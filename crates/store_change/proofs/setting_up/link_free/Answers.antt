@@ -1,6 +1,5 @@
-use Rattle.std.proofs.Common.{◌≡◌, ℕ, ◌+◌, ◌-◌, ◌*◌, ◌≤◌, List, length, ap, ◌∙◌, arith, rules}
+use Rattle.std.proofs.Common.{◌≡◌, ℕ, ◌+◌, List, ap, ◌∙◌, arith, rules}
 use Rattle.store.specs.Records.{records_of, record_count}
-use Rattle.record.specs.Layout.{record_size}
 use Rattle.store.proofs.Lent.{records_next}
 use Rattle.store.specs.Change.{with_next_in}
 use Rattle.store_change.proofs.Linked.{linked_to, zero_linked, linked_turn, linked_end}

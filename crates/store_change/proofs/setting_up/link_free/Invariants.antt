@@ -1,10 +1,8 @@
 -- `store_change::setting_up::link_free` meets its contract. The invariant: the records before i are linked, the others cleared.
-use Rattle.std.proofs.Common.{◌≡◌, ℕ, ◌+◌, ◌-◌, ◌*◌, ◌≤◌, List, length, ap, ◌∙◌, arith, rules}
+use Rattle.std.proofs.Common.{◌≡◌, ◌-◌, ◌*◌, ◌≤◌, length}
 use Rattle.store.specs.Records.{records_of, record_count}
 use Rattle.record.specs.Layout.{record_size}
-use Rattle.store.proofs.Lent.{records_next}
-use Rattle.store.specs.Change.{with_next_in}
-use Rattle.store_change.proofs.Linked.{linked_to, zero_linked, linked_turn, linked_end}
+use Rattle.store_change.proofs.Linked.{linked_to}
 use Rattle.store_change.proofs.setting_up.link_free.Given as goal
 
 abbrev pub invariant-loop-i : goal.invariant-loop-i

@@ -1,5 +1,5 @@
 -- `store_change::setting_up::set_up` meets its contract: bytes of another length stay as they are, else the change of the records is one of the bytes.
-use Rattle.std.proofs.Common.{ℕ, ◌-◌, ◌%◌, List, set, ap, ◌∙◌, rules}
+use Rattle.std.proofs.Common.{ℕ, ◌%◌, List, set, ap, ◌∙◌, rules}
 use Rattle.store.specs.Records.{records_of, record_count, record_in}
 use Rattle.store.proofs.Lent.{records_free, records_byte, changed, unchanged}
 use Rattle.store.specs.Head.{size_at, with_first_free}

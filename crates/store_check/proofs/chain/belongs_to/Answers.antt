@@ -1,5 +1,5 @@
 -- `store_check::chain::belongs_to` meets its contract: no message past the end, else the test of the part lent.
-use Rattle.std.proofs.Common.{ap, ◌∙◌, arith, rules}
+use Rattle.std.proofs.Common.{ap, ◌∙◌, arith}
 use Rattle.record.specs.Record.{read_record}
 use Rattle.record.proofs.RecordLaws.{record_none, record_lent}
 use Rattle.store.specs.Sound.{addressed_to, belongs_to}

@@ -1,9 +1,8 @@
-use Rattle.store_check.proofs.Walking.{all_passed_lem, ended, not_there, met, other, Following, follows, stops}
+use Rattle.store_check.proofs.Walking.{all_passed_lem, ended, not_there, met, other, follows, stops}
 use Rattle.store.specs.Sound.{belongs_on}
 use Rattle.store.proofs.Lent.{followed_none}
-use Rattle.store.specs.Records.{record_count}
 use Rattle.store.specs.declared.chain.Chain.TheVariants.{Free}
-use Rattle.std.proofs.Common.{◌-◌, sym, refl, ◌∙◌, ⊎_elim, arith, rules}
+use Rattle.std.proofs.Common.{sym, refl, ◌∙◌, arith}
 use Rattle.store_check.proofs.chain.follow_free.Goals as goal
 use Rattle.store_check.proofs.chain.follow_free.Goals.{else-loop-count-test, then-loop-count-test+then-i-eq0, then-loop-count-test+else-i-eq0+then-passed-i, then-loop-count-test+else-i-eq0+else-passed-i+then-passed-i-2, then-loop-count-test+else-i-eq0+else-passed-i+else-passed-i-2+then-not-zero_after_next}
 
@@ -36,10 +35,10 @@ returns c =
     let a = c.args in
     stops Free 0 a.s.now a.first a.passed.now l.i l.passed l.count l.invariant
     (elim c.loop-count-test.branch [
-      else-loop-count-test w ↦ all_passed_lem (omega arith)
-    | then-loop-count-test+then-i-eq0 w ↦ ended w.if-i-eq0.true
-    | then-loop-count-test+else-i-eq0+then-passed-i w ↦ not_there w.if-i-eq0.false (omega arith)
-    | then-loop-count-test+else-i-eq0+else-passed-i+then-passed-i-2 w ↦ met w.if-i-eq0.false (omega arith) w.if-passed-i-2.true
-    | then-loop-count-test+else-i-eq0+else-passed-i+else-passed-i-2+then-not-zero_after_next w ↦
-        other w.if-i-eq0.false (omega arith) w.if-passed-i-2.false w.zero_after_next.ensures w.if-not-zero_after_next.true-raw
+      | else-loop-count-test w ↦ all_passed_lem (omega arith)
+      | then-loop-count-test+then-i-eq0 w ↦ ended w.if-i-eq0.true
+      | then-loop-count-test+else-i-eq0+then-passed-i w ↦ not_there w.if-i-eq0.false (omega arith)
+      | then-loop-count-test+else-i-eq0+else-passed-i+then-passed-i-2 w ↦ met w.if-i-eq0.false (omega arith) w.if-passed-i-2.true
+      | then-loop-count-test+else-i-eq0+else-passed-i+else-passed-i-2+then-not-zero_after_next w ↦
+          other w.if-i-eq0.false (omega arith) w.if-passed-i-2.false w.zero_after_next.ensures w.if-not-zero_after_next.true-raw
     ])

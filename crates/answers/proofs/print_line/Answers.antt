@@ -1,0 +1,21 @@
+-- `answers::print_line` meets its contract: the test for room, and `put_line`.
+use native.Mathlib.Omega.{arith}
+use mathlib.Core.Path.{sym, ◌∙◌}
+use borrow.Author.Rules.{rules}
+use Rattle.script.proofs.Writing.{placed_fits, after_fits, placed_none, after_none}
+use Rattle.answers.specs.Output.{output_line, line_room}
+use Rattle.answers.proofs.print_line.Goals as goal
+
+pub returns-then-out-lt-LINE_ROOM : goal.returns-then-out-lt-LINE_ROOM
+returns-then-out-lt-LINE_ROOM c = (sym (after_none _ _ _ _ (omega arith)), sym (placed_none _ _ _ _ (omega arith)))
+
+pub returns-then-out-at : goal.returns-then-out-at
+returns-then-out-at c = (sym (after_none _ _ _ _ (omega arith)), sym (placed_none _ _ _ _ (omega arith)))
+
+pub returns : goal.returns
+returns c =
+    let a = c.args in
+    let w = c.put_line.ensures in (
+      w.place ∙ sym (after_fits line_room a.out.now a.at (output_line a.count a.reply) (omega arith)),
+      w.bytes ∙ sym (placed_fits line_room a.out.now a.at (output_line a.count a.reply) (omega arith)),
+    )
