@@ -24,7 +24,7 @@ for line in read('crates.txt').split('\n'):
     if line.startswith('# '):
         headings.append(line[2:].strip())
     elif ':' in line:
-        crates[line.split(':')[0]] = headings[-1]
+        crates[line.split(':')[0].split()[0]] = headings[-1]
 
 source = {c: '\n'.join(texts(c, 'src', '.rt')) for c in crates}
 logic = {c: '\n'.join(list(texts(c, 'specs', '.antt')) + list(texts(c, 'proofs', '.antt'))) for c in crates}

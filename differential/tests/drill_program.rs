@@ -17,9 +17,9 @@ const LINES: &[u8] = b"n 3\nw 0 65\nd 1\nd 3\nd 4\nd 5\nc 0\ns 0\nd 6\nd 7\nd 8\
     d 13\nd 14\nd 240\nw 0 18446744073709551616\nd 1\r\n\n";
 
 fn drill() -> &'static str {
-    let program = concat!(env!("CARGO_MANIFEST_DIR"), "/../target/bin/drill");
+    let program = concat!(env!("CARGO_MANIFEST_DIR"), "/../crates/drill/out/drill");
     let is_there = Path::new(program).is_file();
-    assert!(is_there, "{program} is not there: run `rt check drill` at the repository's top");
+    assert!(is_there, "{program} is not there: run `rt run` in crates/drill");
     program
 }
 

@@ -1,6 +1,6 @@
 /* Yagvost, a rollback counter for groups of enclaves: what a host program calls.
  *
- * The functions stand in libhost_api.a, which `rt staticlib host_api` writes to target/staticlib. They use no heap, keep
+ * The functions stand in libhost_api.a, which `rt lib` in crates/host_api writes to its out/. They use no heap, keep
  * nothing from one call to the next, and touch only what they are lent. A pointer leads to as many bytes or numbers as
  * the length after it says (to nothing, where the length is 0), and what is written overlaps nothing else that the
  * call is lent. That is all they rely on: whatever bytes and numbers come, they end and answer.

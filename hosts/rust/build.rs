@@ -1,16 +1,16 @@
-//! Links the static library that `rt staticlib host_api` writes.
+//! Links the static library that `rt lib` writes in crates/host_api.
 
 use std::env;
 use std::path::Path;
 
 fn main() {
     let package = env::var("CARGO_MANIFEST_DIR").expect("cargo names the package's folder");
-    let folder = Path::new(&package).join("../../target/staticlib");
+    let folder = Path::new(&package).join("../../crates/host_api/out");
     let archive = folder.join("libhost_api.a");
     println!("cargo::rerun-if-changed={}", archive.display());
     if !archive.is_file() {
         println!(
-            "cargo::error={} is not there: run `rt staticlib host_api` at the repository's top",
+            "cargo::error={} is not there: run `rt lib` in crates/host_api",
             archive.display()
         );
         return;

@@ -8,7 +8,7 @@ ghost use Rattle.drill_run.specs.Whole.{TakenWhole};
 
 use drill_run::{STORE_ROOM, feed};
 use drill_state::{Progress, finish};
-use libc::{STDERR_FILENO, STDIN_FILENO, STDOUT_FILENO};
+use std::io::{Read, Write};
 
 // How often a read that fails is tried, since an interrupted one fails too.
 const TRIES: u64 = 16;
@@ -20,22 +20,26 @@ struct Taken {
     written: bool,
 }
 
-// Says on standard error which of the two failed, input or output: a program of the language has no exit status.
-fn say_failed(input: bool) {
-    if input {
-        io::write_all(STDERR_FILENO, &[b'i', b'n', b'p', b'u', b't']);
+// Says on standard error which of the two failed, input or output; the exit status does not tell. Where that cannot be
+// written either, nothing is said.
+fn say_failed(errors: &mut impl Write, input: bool) {
+    let said: &[u8] = if input {
+        b"input failed\n"
     } else {
-        io::write_all(STDERR_FILENO, &[b'o', b'u', b't', b'p', b'u', b't']);
-    }
-    io::write_all(
-        STDERR_FILENO,
-        &[b' ', b'f', b'a', b'i', b'l', b'e', b'd', b'\n'],
-    );
+        b"output failed\n"
+    };
+    let _ = errors.write_all(said);
 }
 
 // Takes a piece of the script and prints its answers, in as many turns as `out` has room for. It ends early only where
 // no count is left for another line. After an output that cannot be written nothing more is written.
-fn take_piece(piece: &[u8], start: Progress, store: &mut [u8], out: &mut [u8]) -> Taken
+fn take_piece(
+    piece: &[u8],
+    start: Progress,
+    store: &mut [u8],
+    out: &mut [u8],
+    output: &mut impl Write,
+) -> Taken
     ensures { TakenWhole piece.now start store.old (length out.old) result.progress store.new }
 {
     let mut progress = start;
@@ -48,7 +52,7 @@ fn take_piece(piece: &[u8], start: Progress, store: &mut [u8], out: &mut [u8]) -
         let after = fed.progress;
         progress = after;
         if written {
-            written = io::write_all(STDOUT_FILENO, &out[..at]);
+            written = output.write_all(&out[..at]).is_ok();
         }
         if next == 0 {
             break;
@@ -62,44 +66,52 @@ fn take_piece(piece: &[u8], start: Progress, store: &mut [u8], out: &mut [u8]) -
 }
 
 // Reads a block of the script: no byte at its end, or where the input cannot be read, which is said.
-fn read_block(block: &mut [u8]) -> usize
+fn read_block(input: &mut impl Read, errors: &mut impl Write, block: &mut [u8]) -> usize
     ensures { IsPrefixLen result block.new }
 {
     let mut tries = TRIES;
     while 0 < tries {
-        let got = libc::read(STDIN_FILENO, block);
-        if 0 <= got {
-            return io::count(got, block);
+        match input.read(block) {
+            Ok(got) => return got,
+            Err(_) => tries -= 1,
         }
-        tries -= 1;
     }
-    say_failed(true);
+    say_failed(errors, true);
     0
 }
 
 // Reads the script block by block to its end. A proved loop has to end, and nothing says that the input does, so the
 // blocks are counted down from the largest number there is.
-fn main() {
+fn main(rt: HostRuntime) {
+    let mut input = rt.stdin();
+    let mut output = rt.stdout();
+    let mut errors = rt.stderr();
     let mut room = [0u8; STORE_ROOM];
     let mut block = io::large_buffer();
     let mut out = io::large_buffer();
     let mut progress = Progress::start();
     let mut left = u64::MAX;
     while 0 < left {
-        let n = read_block(&mut block);
+        let n = read_block(&mut input, &mut errors, &mut block);
         if n == 0 {
             break;
         }
-        let taken = take_piece(&block[..n], progress, &mut room[..store::LENGTH], &mut out);
+        let taken = take_piece(
+            &block[..n],
+            progress,
+            &mut room[..store::LENGTH],
+            &mut out,
+            &mut output,
+        );
         let next = taken.progress;
         progress = next;
         if taken.written {
             left -= 1;
         } else {
-            say_failed(false);
+            say_failed(&mut errors, false);
             left = 0;
         }
     }
     let at = finish(progress, &mut out);
-    io::write_all(STDOUT_FILENO, &out[..at]);
+    let _ = output.write_all(&out[..at]);
 }

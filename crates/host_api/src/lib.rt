@@ -19,6 +19,7 @@ pub extern "C" fn yagvost_run_script(script: &[u8], out: &mut [u8]) -> usize
 }
 
 // Whether these bytes are a sound store of a group of `n`.
+#[tactic(auto, unfolding(crate::specs::Sound::sound_for))]
 #[unsafe(no_mangle)]
 pub extern "C" fn yagvost_is_sound(store: &[u8], n: u64) -> bool
     ensures { result ≡ sound_for store.now n }

@@ -3,8 +3,9 @@
 #![tactic(auto)]
 
 use item::{Attempt, Incarnation, Index, Item, Tag};
-use libc::STDOUT_FILENO;
 use message::{Envelope, Message};
+use std::io;
+use std::io::Write;
 use store_access::links;
 
 // The group.
@@ -48,32 +49,42 @@ fn fill(s: &mut [u8]) {
 }
 
 // The line of one store.
-fn print(s: &[u8], name: &[u8]) {
-    io::write_all(STDOUT_FILENO, name);
+fn print(out: &mut impl Write, s: &[u8], name: &[u8]) -> io::Result<()> {
+    out.write_all(name)?;
     let found = store_check::check_store(s);
     if !found.sound {
-        io::write_all(STDOUT_FILENO, b": unsound\n");
-        return;
+        return out.write_all(b": unsound\n");
     }
-    io::write_all(STDOUT_FILENO, b": sound, n ");
-    io::print_decimal(STDOUT_FILENO, found.n as u64);
-    io::write_all(STDOUT_FILENO, b", free ");
-    io::print_decimal(STDOUT_FILENO, found.free as u64);
-    io::write_all(STDOUT_FILENO, b"\n");
+    let n = found.n;
+    let free = found.free;
+    writeln!(out, ": sound, n {n}, free {free}")
 }
 
 // A store with messages, and `next` after record `i`.
-fn print_linked(s: &mut [u8], name: &[u8], i: usize, next: usize) {
+fn print_linked(
+    out: &mut impl Write,
+    s: &mut [u8],
+    name: &[u8],
+    i: usize,
+    next: usize,
+) -> io::Result<()> {
     fill(s);
     links::set_next(s, i, next);
-    print(s, name);
+    print(out, s, name)
 }
 
 // A store with messages, and one byte of record `i` changed.
-fn print_changed(s: &mut [u8], name: &[u8], i: usize, at: usize, to: u8) {
+fn print_changed(
+    out: &mut impl Write,
+    s: &mut [u8],
+    name: &[u8],
+    i: usize,
+    at: usize,
+    to: u8,
+) -> io::Result<()> {
     fill(s);
     change(s, i, at, to);
-    print(s, name);
+    print(out, s, name)
 }
 
 // Byte `at` of record `i` becomes `to`.
@@ -91,45 +102,53 @@ fn change(s: &mut [u8], i: usize, at: usize, to: u8) {
     s[place] = to;
 }
 
-fn print_chains(s: &mut [u8]) {
-    print_linked(s, b"a loop in an inbox", 3, 1);
-    print_linked(s, b"a loop in the free chain", 239, 4);
-    print_linked(s, b"a record on two chains", 3, 2);
-    print_linked(s, b"a record on none", 4, 6);
-    print_linked(s, b"a next beyond the end", 239, 240);
+fn print_chains(out: &mut impl Write, s: &mut [u8]) -> io::Result<()> {
+    print_linked(out, s, b"a loop in an inbox", 3, 1)?;
+    print_linked(out, s, b"a loop in the free chain", 239, 4)?;
+    print_linked(out, s, b"a record on two chains", 3, 2)?;
+    print_linked(out, s, b"a record on none", 4, 6)?;
+    print_linked(out, s, b"a next beyond the end", 239, 240)
 }
 
-fn print_heads(s: &mut [u8]) {
-    print_changed(s, b"n 4", 0, SIZE_AT, 4);
-    print_changed(s, b"a stray byte beside n", 0, SPARE_AT, 1);
-    print_changed(s, b"a stray byte after the inboxes", 0, REST_AT, 1);
+fn print_heads(out: &mut impl Write, s: &mut [u8]) -> io::Result<()> {
+    print_changed(out, s, b"n 4", 0, SIZE_AT, 4)?;
+    print_changed(out, s, b"a stray byte beside n", 0, SPARE_AT, 1)?;
+    print_changed(out, s, b"a stray byte after the inboxes", 0, REST_AT, 1)
 }
 
-fn print_unused(s: &mut [u8]) {
-    print_changed(s, b"a stray byte in a free record", 239, LAST_AT, 1);
-    print_changed(s, b"a stray byte in an unused field", 2, ATTEMPT_AT, 1);
-    print_changed(s, b"a stray byte in an unused row", 1, LAST_AT, 1);
+fn print_unused(out: &mut impl Write, s: &mut [u8]) -> io::Result<()> {
+    print_changed(out, s, b"a stray byte in a free record", 239, LAST_AT, 1)?;
+    print_changed(out, s, b"a stray byte in an unused field", 2, ATTEMPT_AT, 1)?;
+    print_changed(out, s, b"a stray byte in an unused row", 1, LAST_AT, 1)
 }
 
-fn print_addresses(s: &mut [u8]) {
-    print_changed(s, b"a wrong owner", 1, ADDRESS_AT, 0x02);
-    print_changed(s, b"a sender equal to the addressee", 1, ADDRESS_AT, 0x11);
-    print_changed(s, b"a sender not below n", 1, ADDRESS_AT, 0x31);
+fn print_addresses(out: &mut impl Write, s: &mut [u8]) -> io::Result<()> {
+    print_changed(out, s, b"a wrong owner", 1, ADDRESS_AT, 0x02)?;
+    print_changed(
+        out,
+        s,
+        b"a sender equal to the addressee",
+        1,
+        ADDRESS_AT,
+        0x11,
+    )?;
+    print_changed(out, s, b"a sender not below n", 1, ADDRESS_AT, 0x31)
 }
 
-fn main() {
+fn main(rt: HostRuntime) -> io::Result<()> {
+    let mut out = rt.stdout();
     let mut bytes = [0u8; store::LENGTH];
-    print(&bytes, b"zeros");
+    print(&mut out, &bytes, b"zeros")?;
     store_change::set_up(&mut bytes, NODES);
-    print(&bytes, b"set up");
+    print(&mut out, &bytes, b"set up")?;
     fill(&mut bytes);
-    print(&bytes, b"with messages");
-    print(&bytes[0..store::LENGTH - 1], b"one byte short");
-    print_chains(&mut bytes);
-    print_heads(&mut bytes);
-    print_unused(&mut bytes);
-    print_addresses(&mut bytes);
+    print(&mut out, &bytes, b"with messages")?;
+    print(&mut out, &bytes[0..store::LENGTH - 1], b"one byte short")?;
+    print_chains(&mut out, &mut bytes)?;
+    print_heads(&mut out, &mut bytes)?;
+    print_unused(&mut out, &mut bytes)?;
+    print_addresses(&mut out, &mut bytes)?;
     fill(&mut bytes);
     store_change::drop_message(&mut bytes, 1, 1);
-    print(&bytes, b"one message dropped");
+    print(&mut out, &bytes, b"one message dropped")
 }

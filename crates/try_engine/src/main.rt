@@ -10,12 +10,13 @@
 use answers::{Reply, print_line};
 use engine::{crash, deliver, fresh_node, start, write};
 use item::{Attempt, Incarnation, Index, Item, Row, Tag};
-use libc::STDOUT_FILENO;
 use message::Envelope;
 use node::with_row;
 use outbox::{outgoing_to, row_items};
 use protocol::{Answer, Node, Sends, Step};
 use record_write::fields_of;
+use std::io;
+use std::io::Write;
 
 // The nodes of the group.
 const NODES: usize = 3;
@@ -29,53 +30,55 @@ fn node_at(digit: u8) -> usize {
     }
 }
 
-fn word(text: &[u8], x: u64) {
-    io::write_all(STDOUT_FILENO, text);
-    io::print_decimal(STDOUT_FILENO, x);
+fn word(out: &mut impl Write, text: &[u8], x: u64) -> io::Result<()> {
+    out.write_all(text)?;
+    write!(out, "{x}")
 }
 
 // Some of the bytes; nothing where they are not there.
-fn print_part(bytes: &[u8], start: usize, end: usize) {
+fn print_part(out: &mut impl Write, bytes: &[u8], start: usize, end: usize) -> io::Result<()> {
     if end < start {
-        return;
+        return Ok(());
     }
     if end <= bytes.len() {
-        io::write_all(STDOUT_FILENO, &bytes[start..end]);
+        out.write_all(&bytes[start..end])?;
     }
+    Ok(())
 }
 
 // The name of a kind of message, by its number.
-fn print_kind(kind: u8) {
+fn print_kind(out: &mut impl Write, kind: u8) -> io::Result<()> {
     if kind < 1 {
-        return;
+        return Ok(());
     }
     if 6 < kind {
-        return;
+        return Ok(());
     }
     let start = (kind - 1) as usize * 9;
     print_part(
+        out,
         b"Store    Stored   Confirm  ConfirmedFetch    Table    ",
         start,
         start + 9,
-    );
+    )
 }
 
 // One message: to whom, and its fields; 0 where its kind has none.
-fn print_message(envelope: Envelope) {
+fn print_message(out: &mut impl Write, envelope: Envelope) -> io::Result<()> {
     let fields = fields_of(envelope);
     let other = fields.other;
     let attempt = fields.attempt;
     let item = fields.item;
-    print_kind(fields.kind);
-    word(b" to ", fields.addressee as u64);
-    word(b" other ", other.0 as u64);
-    word(b" attempt ", attempt.0 as u64);
-    word(b" item ", item.index.0);
-    word(b" ", item.tag.0);
-    io::write_all(STDOUT_FILENO, b"\n");
+    print_kind(out, fields.kind)?;
+    word(out, b" to ", fields.addressee as u64)?;
+    word(out, b" other ", other.0 as u64)?;
+    word(out, b" attempt ", attempt.0 as u64)?;
+    word(out, b" item ", item.index.0)?;
+    word(out, b" ", item.tag.0)?;
+    out.write_all(b"\n")
 }
 
-fn print_sends(step: Step, back: usize) {
+fn print_sends(out: &mut impl Write, step: Step, back: usize) -> io::Result<()> {
     let node = step.node;
     let sends = step.sends;
     let mut k: usize = 0;
@@ -83,16 +86,17 @@ fn print_sends(step: Step, back: usize) {
         let place = outgoing_to(node, sends, back, k);
         let envelope = place.envelope;
         if place.present {
-            print_message(envelope);
+            print_message(out, envelope)?;
         }
         k += 1;
     }
+    Ok(())
 }
 
-fn print_answer(answer: Answer, count: u64) {
+fn print_answer(out: &mut impl Write, answer: Answer, count: u64) -> io::Result<()> {
     let mut line = [0u8; answers::LINE_ROOM];
     let end = print_line(&mut line, 0, count, Reply::Answered(answer));
-    print_part(&line, 0, end);
+    print_part(out, &line, 0, end)
 }
 
 // What the sender's latest step sent reaches this node.
@@ -146,57 +150,64 @@ fn fresh_step(number: usize) -> Step {
 
 // One line of a script. A node is kept with what its latest line answered and sent.
 fn take_line(
+    out: &mut impl Write,
     steps: [Step; NODES],
     letter: u8,
     from: usize,
     to: usize,
     count: u64,
-) -> [Step; NODES] {
+) -> io::Result<[Step; NODES]> {
     if NODES <= from {
-        return steps;
+        return Ok(steps);
     }
     if NODES <= to {
-        return steps;
+        return Ok(steps);
     }
     let sent = steps[from];
     let held = steps[to];
     let step = event(letter, sent, to, held.node);
     let answer = step.answer;
-    print_answer(answer, count);
-    print_sends(step, from);
+    print_answer(out, answer, count)?;
+    print_sends(out, step, from)?;
     let mut next = steps;
     next[to] = step;
-    next
+    Ok(next)
 }
 
 // The line that ends at this byte of the script, if one does: the fourth byte of each line is a space.
-fn take_byte(steps: [Step; NODES], script: &[u8], i: usize) -> [Step; NODES] {
+fn take_byte(
+    out: &mut impl Write,
+    steps: [Step; NODES],
+    script: &[u8],
+    i: usize,
+) -> io::Result<[Step; NODES]> {
     if script.len() <= i {
-        return steps;
+        return Ok(steps);
     }
     if i < 3 {
-        return steps;
+        return Ok(steps);
     }
     if i % 4 != 3 {
-        return steps;
+        return Ok(steps);
     }
     let letter = script[i - 3];
     let from = node_at(script[i - 2]);
     let to = node_at(script[i - 1]);
-    print_part(script, i - 3, i + 1);
-    take_line(steps, letter, from, to, ((i + 1) / 4) as u64)
+    print_part(out, script, i - 3, i + 1)?;
+    take_line(out, steps, letter, from, to, ((i + 1) / 4) as u64)
 }
 
 // Takes the lines of a script; each node is set up by a line of its own.
-fn run(script: &[u8]) {
+fn run(out: &mut impl Write, script: &[u8]) -> io::Result<()> {
     let none = fresh_step(0);
     let mut steps = [none; NODES];
     let mut i = 0;
     while i < script.len() {
-        let next = take_byte(steps, script, i);
+        let next = take_byte(out, steps, script, i)?;
         steps = next;
         i += 1;
     }
+    Ok(())
 }
 
 // Lines 1 to 9: a write, settled with node 1; the last message comes twice.
@@ -204,8 +215,9 @@ fn run(script: &[u8]) {
 // Lines 21 to 28: two tables that disagree on the row of node 2, and the return stops.
 // Lines 29 to 33: another start, a late table of the earlier one, and a table that comes twice.
 // Lines 34 to 36: node 2 starts too, and a node that is Fetching does not answer its Fetch.
-fn main() {
+fn main(rt: HostRuntime) -> io::Result<()> {
     run(
+        &mut rt.stdout(),
         b"n00 n11 n22 w00 m01 m10 m01 m10 m10 c00 s00 m01 m02 m10 m20 m01 m10 m01 m10 m10 x11 x22 c00 s00 m01 m02 m10 m20 s00 m01 m20 m10 m10 c22 s22 m20 ",
-    );
+    )
 }

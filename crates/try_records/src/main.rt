@@ -3,8 +3,9 @@
 #![tactic(auto)]
 
 use item::{Attempt, Incarnation, Index, Item, Tag};
-use libc::STDOUT_FILENO;
 use message::{Envelope, Message};
+use std::io;
+use std::io::Write;
 
 // The group: of the fifteen rows handed in, a Table keeps five.
 const NODES: usize = 5;
@@ -105,23 +106,26 @@ fn wide(x: u8) -> u64 {
 }
 
 // The byte at place `at`, and the end of a line after each sixteenth.
-fn print_byte(b: u8, at: usize) {
-    io::print_hex(STDOUT_FILENO, wide(b), 2);
+fn print_byte(out: &mut impl Write, b: u8, at: usize) -> io::Result<()> {
+    let wide = wide(b);
+    write!(out, "{wide:02x}")?;
     if at % 16 == 15 {
-        io::write_all(STDOUT_FILENO, b"\n");
+        out.write_all(b"\n")?;
     }
+    Ok(())
 }
 
-fn print(s: &[u8]) {
+fn print(out: &mut impl Write, s: &[u8]) -> io::Result<()> {
     let mut i = 0;
     while i < s.len() {
-        print_byte(s[i], i);
+        print_byte(out, s[i], i)?;
         i += 1;
     }
+    Ok(())
 }
 
-fn main() {
+fn main(rt: HostRuntime) -> io::Result<()> {
     let mut records = [0u8; 1632];
     fill(&mut records);
-    print(&records);
+    print(&mut rt.stdout(), &records)
 }

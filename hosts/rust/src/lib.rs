@@ -1,5 +1,5 @@
 //! The proved rollback counter for hosts in Rust: a safe wrapper of the static
-//! library that `rt staticlib host_api` writes.
+//! library that `rt lib` writes in crates/host_api.
 //!
 //! Lengths are tested here before the library is called, and again by the
 //! library itself, which takes slices and numbers of any kind.

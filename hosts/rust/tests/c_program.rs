@@ -47,7 +47,7 @@ fn build(variable: &str, compiler: &str, standard: &str, source: &Path, name: &s
         .arg("-o")
         .arg(&program)
         .arg(source)
-        .arg(hosts().join("../target/staticlib/libhost_api.a"))
+        .arg(hosts().join("../crates/host_api/out/libhost_api.a"))
         .status()
         .unwrap_or_else(|error| panic!("the compiler {compiler}: {error}"));
     assert!(built.success());
