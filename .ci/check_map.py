@@ -46,9 +46,10 @@ for path in set(re.findall(r'`([a-z_]+(?:::\w+)+)`', the_map)):
     elif not re.search(rf'\b(struct|enum|impl) {parts[0]}\b', all_source):
         wrong.append(f'MAP: no crate or type {parts[0]} of {path}')
 
-# definitions: `camelCase` and `Capital` names that stand alone in quotes
-for name in set(re.findall(r'`([A-Za-z][A-Za-z0-9-]*)`', the_map)):
-    if name not in crates and not named(name, all_logic) and not named(name, all_source):
+# definitions: `snake_case` and `Capital` names that stand alone in quotes, or tests of differential/
+for name in set(re.findall(r"`([A-Za-z][A-Za-z0-9_'-]*)`", the_map)):
+    a_test = os.path.exists(f'differential/tests/{name}.rs')
+    if name not in crates and not a_test and not named(name, all_logic) and not named(name, all_source):
         wrong.append(f'MAP: no definition {name}')
 
 # edits: 'crate label, label; crate label' in the last column
