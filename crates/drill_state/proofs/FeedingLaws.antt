@@ -22,7 +22,7 @@ use Rattle.script.specs.declared.buffer.LineBuffer.{LineBuffer}
 use Rattle.record.specs.Layout.{record_size}
 use Rattle.script.proofs.Gathered.{gathered, gathered_length}
 use Rattle.store.specs.Records.{record_count}
-use Rattle.drill_state.specs.Turn.{Done, no_group, line_done}
+use Rattle.drill_state.specs.Turn.{no_group, line_done}
 use Rattle.drill_state.specs.Drill.{last_output, output_from, drill_output}
 use Rattle.drill_state.specs.Feeding.{at_start, buffered_output, progress_output, line_feeds, Counted}
 use Rattle.drill_state.specs.declared.Drill.{Drill}

@@ -1,7 +1,6 @@
 -- `answers::print_line` meets its contract: the test for room, and `put_line`.
 use native.Mathlib.Omega.{arith}
 use mathlib.Core.Path.{sym, ◌∙◌}
-use borrow.Author.Rules.{rules}
 use Rattle.script.proofs.Writing.{placed_fits, after_fits, placed_none, after_none}
 use Rattle.answers.specs.Output.{output_line, line_room}
 use Rattle.answers.proofs.print_line.Goals as goal

@@ -1,5 +1,4 @@
 -- `answers::put_answer` meets its contract: each answer's word, and what stands after it.
-use borrow.Author.Rules.{rules}
 use Rattle.answers.specs.Output.{answer_bytes}
 use Rattle.answers.proofs.put_answer.Goals as goal
 

@@ -1,9 +1,7 @@
 -- `answers::put_item` meets its contract: the word with the index, a space, the tag; and there is room for each.
 use native.Mathlib.Omega.{arith}
 use mathlib.Core.List.{◌∷◌, append_assoc}
-use mathlib.Core.Path.{◌∙◌}
 use lib.ListN.{length-append}
-use borrow.Author.Rules.{rules}
 use Rattle.answers.specs.Output.{tag_bytes, item_bytes}
 use Rattle.script.specs.Bytes.{space}
 use Rattle.script.proofs.Writing.{decimal_length}

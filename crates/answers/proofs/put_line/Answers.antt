@@ -1,8 +1,6 @@
 -- `answers::put_line` meets its contract: its four pieces one after another; the room for the longest line is
 -- more than each piece needs.
 use native.Mathlib.Omega.{arith}
-use mathlib.Core.Path.{◌∙◌}
-use borrow.Author.Rules.{rules}
 use Rattle.script.proofs.Writing.{decimal_length}
 use Rattle.answers.specs.Output.{output_line}
 use Rattle.answers.proofs.Printing.{then, number_written, reply_length}

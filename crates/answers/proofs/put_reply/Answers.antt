@@ -1,5 +1,4 @@
 -- `answers::put_reply` meets its contract: the answer, or the word for none.
-use borrow.Author.Rules.{rules}
 use Rattle.answers.specs.Output.{reply_bytes}
 use Rattle.answers.proofs.put_reply.Goals as goal
 

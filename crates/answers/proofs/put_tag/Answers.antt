@@ -1,6 +1,5 @@
 -- `answers::put_tag` meets its contract: the tag's number, where there is room.
 use native.Mathlib.Omega.{arith}
-use borrow.Author.Rules.{rules}
 use Rattle.answers.proofs.Printing.{number_written}
 use Rattle.answers.specs.Output.{tag_bytes}
 use Rattle.answers.proofs.put_tag.Goals as goal

@@ -1,9 +1,7 @@
-use Prim.Native.Nat.{◌+◌, ◌≤◌, ◌-◌}
+use Prim.Native.Nat.{◌+◌}
 use native.Mathlib.Omega.{arith}
-use mathlib.Core.Path.{sym, ◌∙◌, refl, ◌≡◌}
-use lib.Seq.{sets}
-use lib.ListN.{length, drop, length-set}
-use borrow.Author.Rules.{rules}
+use mathlib.Core.Path.{sym, ◌∙◌, refl}
+use lib.ListN.{length-set}
 use Rattle.answers.proofs.Printing.{sets_first, sets_turn, sets_over}
 use Rattle.answers.proofs.put_text.Goals as goal
 

@@ -1,12 +1,9 @@
 -- `answers::put_text` meets its contract. The invariant: writing the bytes left, from the present place, gives
 -- what writing all of them gives.
 use Prim.Native.Nat.{◌+◌, ◌≤◌, ◌-◌}
-use native.Mathlib.Omega.{arith}
-use mathlib.Core.Path.{sym, ◌∙◌, refl, ◌≡◌}
+use mathlib.Core.Path.{◌≡◌}
 use lib.Seq.{sets}
-use lib.ListN.{length, drop, length-set}
-use borrow.Author.Rules.{rules}
-use Rattle.answers.proofs.Printing.{sets_first, sets_turn, sets_over}
+use lib.ListN.{length, drop}
 use Rattle.answers.proofs.put_text.Given as goal
 
 abbrev pub invariant-loop-i : goal.invariant-loop-i

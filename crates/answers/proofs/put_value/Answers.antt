@@ -1,9 +1,7 @@
 -- `answers::put_value` meets its contract: the number after the word.
 use Prim.Native.Nat.{◌+◌, ◌≤◌}
 use native.Mathlib.Omega.{arith}
-use mathlib.Core.Path.{◌∙◌}
 use lib.ListN.{length}
-use borrow.Author.Rules.{rules}
 use Rattle.answers.proofs.Printing.{then, number_written}
 use Rattle.answers.proofs.put_value.Goals as goal
 

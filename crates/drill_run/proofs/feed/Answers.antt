@@ -1,6 +1,5 @@
 -- `drill_run::feed`: the piece begins where the drill stands, and its lines are taken from there.
 use native.Mathlib.Omega.{arith}
-use borrow.Author.Rules.{rules}
 use Rattle.drill_run.proofs.feed.Goals as goal
 
 pub returns : goal.returns

@@ -1,5 +1,4 @@
 -- `drill_state::finish` meets its contract: nothing is printed where no byte is held or no number is left, else one line.
-use Prim.Native.Nat.{suc, ◌+◌}
 use native.Mathlib.Numerals.{add-one}
 use native.Mathlib.Omega.{arith}
 use mathlib.Core.Path.{◌≡◌}

@@ -6,7 +6,6 @@ use lib.ListN.{take, replicate}
 use Rattle.record.specs.Layout.{record_size}
 use Rattle.store.specs.Records.{record_count}
 use Rattle.run_script.proofs.ScriptLaws.{first_of_replicate, cut_short, no_room, ended, unended}
-use borrow.Author.Rules.{rules}
 use Rattle.run_script.proofs.run.Goals as goal
 
 -- the store that is lent holds zeros

@@ -1,5 +1,4 @@
 -- `drill_state::line_reader::first_line`: a piece begins at rest.
-use borrow.Author.Rules.{rules}
 use Rattle.drill_state.specs.Position.{resting_at}
 use Rattle.drill_state.proofs.Laws.{begins, from_rest}
 use Rattle.drill_state.proofs.line_reader.first_line.Goals as goal

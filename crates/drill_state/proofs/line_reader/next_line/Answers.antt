@@ -1,6 +1,5 @@
 -- `drill_state::line_reader::next_line`: what was asked is answered, and the reading goes on from there.
 use mathlib.Core.Path.{ap, ◌∙◌}
-use borrow.Author.Rules.{rules}
 use Rattle.drill_state.specs.Position.{resting_at}
 use Rattle.drill_state.proofs.Laws.{answers, from_rest}
 use Rattle.drill_state.proofs.line_reader.next_line.Goals as goal

@@ -1,20 +1,16 @@
-use Prim.Native.Nat.{ℕ, ◌+◌, ◌-◌, ◌<◌, ◌≤◌, ◌^◌}
+use Prim.Native.Nat.{◌+◌, ◌≤◌}
 use native.Mathlib.Omega.{arith}
-use mathlib.Core.Path.{◌≡◌, refl, sym, ap, ◌∙◌}
-use mathlib.Core.Bool.{true, false, true≢false, false≢true}
-use mathlib.Core.Logic.{inl, inr, ⊎_elim}
-use mathlib.Core.List.{List}
+use mathlib.Core.Path.{refl, sym, ap, ◌∙◌}
+use mathlib.Core.Bool.{true≢false, false≢true}
+use mathlib.Core.Logic.{inl, inr}
 use lib.ListN.{length}
 use borrow.Author.Tests.{leb-true, leb-false}
-use Rattle.item.specs.Tests.{granted, refuted}
+use Rattle.item.specs.Tests.{granted}
 use Rattle.answers.specs.Output.{line_room}
 use Rattle.answers.specs.declared.Reply.TheVariants as reply
 use Rattle.drill_state.proofs.FeedingLaws.{line_within}
 use Rattle.drill_state.specs.Turn.{line_for}
-use Rattle.drill_state.specs.declared.Progress.{Progress}
-use Rattle.protocol.specs.declared.Node.{Node}
-use Rattle.drill_state.specs.Position.{Reached, resting_at, asking_at, nothing_asked}
-use Rattle.drill_state.specs.declared.line_reader.Position.{Position}
+use Rattle.drill_state.specs.Position.{resting_at, asking_at, nothing_asked}
 use Rattle.drill_state.proofs.Laws.{rest_byte, rest_unread, rest_asks, not_asked}
 use borrow.Author.Rules.{rules}
 use Rattle.drill_state.proofs.line_reader.read_on.Goals as goal
@@ -89,9 +85,9 @@ returns c =
             further = λ e. absurd (false≢true e);
             ended = λ _ few.
                 elim c.loop-next-test.branch [
-                  else-loop-next-test w ↦ inl (omega (arith, w.loop-next-test.false, l.invariant.1.1.0 few))
-                | then-loop-next-test+else-b-ne10+then-not-has_room w ↦ inr (inl (leb-false _ _ (sym w.has_room.ensures ∙ w.if-not-has_room.true)))
-                | then-loop-next-test+else-b-ne10+else-not-has_room+then-count w ↦ inr (inr (omega (arith, w.if-count.true)))
+                  | else-loop-next-test w ↦ inl (omega (arith, w.loop-next-test.false, l.invariant.1.1.0 few))
+                  | then-loop-next-test+else-b-ne10+then-not-has_room w ↦ inr (inl (leb-false _ _ (sym w.has_room.ensures ∙ w.if-not-has_room.true)))
+                  | then-loop-next-test+else-b-ne10+else-not-has_room+then-count w ↦ inr (inr (omega (arith, w.if-count.true)))
                 ];
           };
       same = l.invariant.1.1.1.0;
