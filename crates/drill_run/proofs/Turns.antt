@@ -1,4 +1,4 @@
--- Laws of a turn of the loop over the lines of a piece, and what its walk names of a position in memory.
+-- Laws of a turn of the loop over the lines of a piece.
 use Prim.Native.Nat.{ℕ, ◌+◌, ◌-◌, ◌<◌}
 use native.Mathlib.Omega.{arith}
 use mathlib.Core.Path.{◌≡◌, refl, sym, subst}
@@ -13,13 +13,6 @@ use Rattle.drill_state.specs.Position.{Reached, Onward}
 use Rattle.drill_state.specs.Steps.{Answers}
 use Rattle.drill_state.specs.declared.line_reader.Position.{Position}
 use Rattle.drill_run.specs.Taking.{Takes}
-
--- where the fields of `drill_state::line_reader::Position` stand that the walk reads
-abbrev pub asks_at : ℕ
-asks_at = 104
-
-abbrev pub asked_at : ℕ
-asked_at = 112
 
 -- what is left of the piece, and an answer that is to be printed
 abbrev pub left : List ℕ → Position → ℕ
