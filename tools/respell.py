@@ -22,6 +22,8 @@ USE = re.compile(r"^\s*(?:ghost |pub )*use ([^\s{;]+?)(?:\.\{([^}]*)\})?(?: as (
 # names whose plain turning falls together with another name
 LEMMAS = ["head_passed", "is_digit", "read_as", "same_attempt", "same_item", "same_row", "zero_row"]
 OTHER = {n: n + "_lem" for n in LEMMAS}
+# names that files give to what they import, and that stand in no other place
+ALIASES = {"row-use": "row_uses"} | {n: None for n in ["crashedNode", "startedNode", "writtenNode", "okStep", "refusedStep", "retriedNode", "withChange"]}
 
 
 def snake(n):
@@ -146,11 +148,12 @@ def main():
     dry = "--dry" in sys.argv
     names, heads = collect()
     table = {n: OTHER.get(n, snake(n)) for n in names}
+    table.update({n: v or snake(n) for n, v in ALIASES.items()})
     antt, rt = files()
     # a lemma with a dash beside a definition of the same words
     camel = {table[n] for n in table if CAMEL.match(n)}
     for n in table:
-        if KEBAB.match(n) and table[n] in camel and n not in OTHER:
+        if KEBAB.match(n) and table[n] in camel and n not in OTHER and n not in ALIASES:
             table[n] += "_lem"
     clashes = {}
     texts = {}

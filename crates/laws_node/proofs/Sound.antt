@@ -21,7 +21,7 @@ use Rattle.protocol.specs.Sound.{every_from, row_sound, row_use}
 use Rattle.protocol.specs.Storing.{send_confirm, store_success}
 use Rattle.protocol.specs.Write.{send_store, send_fetch, written, retried, nothing_to_retry}
 use Rattle.protocol.specs.declared.Node.{Node}
-use Rattle.protocol.specs.declared.RowUse.TheVariants as row_use_lem
+use Rattle.protocol.specs.declared.RowUse.TheVariants as row_uses
 use Rattle.protocol.specs.declared.Stage.TheVariants.{Storing}
 use Rattle.protocol.specs.declared.Step.{Step}
 use Rattle.protocol.proofs.InView.{size_fits}
@@ -62,21 +62,21 @@ module _ (n k : ℕ) (node : Node) (S : Soundly n k node) (f : 0 < half n) (belo
 
   -- ---- any decision
 
-  stored_rows : row_use node.phase (count_peers node.counted) ≡ row_use_lem.Stored → every_from (row_sound row_use_lem.Stored n) 0 node.rows ≡ true
-  stored_rows e = rows_of row_use_lem.Stored n node.phase (count_peers node.counted) node.rows e S.rows_sound
+  stored_rows : row_use node.phase (count_peers node.counted) ≡ row_uses.Stored → every_from (row_sound row_uses.Stored n) 0 node.rows ≡ true
+  stored_rows e = rows_of row_uses.Stored n node.phase (count_peers node.counted) node.rows e S.rows_sound
 
   outcome_sound : (d : Decision) (step : Step) → MayCome n k d → Outcome node d step → Soundly n k step.node
   unfolding refused ok send_fetch send_store written retried nothing_to_retry at_stage row_use MayCome
   outcome_sound d step come (refuses d' why) = S
   outcome_sound d step come (writes tag e) =
       begun_sound n k node S.number_is S.size_is _ _ _ refl below f
-      (stored_rows (idle_cases (λ p. row_use p (count_peers node.counted) ≡ row_use_lem.Stored) (λ _. refl) node.phase e))
+      (stored_rows (idle_cases (λ p. row_use p (count_peers node.counted) ≡ row_uses.Stored) (λ _. refl) node.phase e))
   outcome_sound d step come fetches_again = S
   outcome_sound d step come (retries e live) =
       begun_sound n k node S.number_is S.size_is _ _ _
       (live_cases (λ p. is_storing (at_stage p Storing) ≡ true) (λ _. refl) (λ _. refl) node.phase (or_left (is_down node.phase) (is_idle node.phase) e) live)
       below f
-      (stored_rows (live_cases (λ p. row_use p (count_peers node.counted) ≡ row_use_lem.Stored) (λ _. refl) (λ _. refl) node.phase
+      (stored_rows (live_cases (λ p. row_use p (count_peers node.counted) ≡ row_uses.Stored) (λ _. refl) (λ _. refl) node.phase
       (or_left (is_down node.phase) (is_idle node.phase) e) live))
   outcome_sound d step come crashes = crashed_sound n k node S.number_is S.size_is
   outcome_sound d step come (starts e l) = started_sound n k node S.number_is S.size_is

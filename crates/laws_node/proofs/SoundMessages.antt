@@ -26,7 +26,7 @@ use Rattle.protocol.specs.declared.Node.{Node}
 use Rattle.protocol.specs.declared.Peer.{Peer}
 use Rattle.protocol.specs.declared.Phase.TheVariants.{Returning}
 use Rattle.protocol.specs.declared.RowUse.{RowUse}
-use Rattle.protocol.specs.declared.RowUse.TheVariants as row_use_lem
+use Rattle.protocol.specs.declared.RowUse.TheVariants as row_uses
 use Rattle.protocol.specs.declared.Stage.TheVariants.{Storing, Confirming}
 use Rattle.protocol.proofs.Counts.{peer_under}
 use Rattle.protocol.proofs.Rows.{merged_length}
@@ -41,14 +41,14 @@ module _ (n k : ℕ) (node : Node) (S : Soundly n k node) (s : ℕ) (l : s < n) 
       → Soundly n k (with_row node s (stored_row item i a))
   unfolding with_row row_use
   row_sound_lem item i a e =
-      let stored : row_use node.phase (count_peers node.counted) ≡ row_use_lem.Stored
-      = up_cases (λ p. row_use p (count_peers node.counted) ≡ row_use_lem.Stored) (λ _. refl) node.phase e in
+      let stored : row_use node.phase (count_peers node.counted) ≡ row_uses.Stored
+      = up_cases (λ p. row_use p (count_peers node.counted) ≡ row_uses.Stored) (λ _. refl) node.phase e in
       record {
         number_is = S.number_is;
         size_is = S.size_is;
         attempt_fits = S.attempt_fits;
-        rows_sound = rows_in row_use_lem.Stored n node.phase (count_peers node.counted) (set node.rows s (stored_row item i a)) stored
-            (row_set n node.rows s item i a l (rows_of row_use_lem.Stored n node.phase (count_peers node.counted) node.rows stored S.rows_sound));
+        rows_sound = rows_in row_uses.Stored n node.phase (count_peers node.counted) (set node.rows s (stored_row item i a)) stored
+            (row_set n node.rows s item i a l (rows_of row_uses.Stored n node.phase (count_peers node.counted) node.rows stored S.rows_sound));
         counted_sound = S.counted_sound;
         asked_sound = S.asked_sound;
         counts_fit = S.counts_fit;
@@ -149,7 +149,7 @@ module _ (n k : ℕ) (node : Node) (S : Soundly n k node) (s : ℕ) (l : s < n) 
       size_is = S.size_is;
       attempt_fits = refl;
       rows_sound = confirming_cases
-          (λ p. every_from (row_sound (row_use p (count_peers node.counted)) n) 0 node.rows ≡ true → every_from (row_sound row_use_lem.Stored n) 0 node.rows ≡ true)
+          (λ p. every_from (row_sound (row_use p (count_peers node.counted)) n) 0 node.rows ≡ true → every_from (row_sound row_uses.Stored n) 0 node.rows ≡ true)
           (λ h. h) (λ h. h) node.phase e S.rows_sound;
       counted_sound = none_sound k n;
       asked_sound = none_sound k n;
@@ -159,14 +159,14 @@ module _ (n k : ℕ) (node : Node) (S : Soundly n k node) (s : ℕ) (l : s < n) 
 
     -- Table, before the (f + 1)-th
     module _ (items : List Item) (zeros : (j : ℕ) → n ≤ j → get_or items j zero_item ≡ zero_item) (e : is_fetching node.phase ≡ true) where
-      fetched_rows : every_from (row_sound row_use_lem.Fetched n) 0 (merge_rows (none_counted node) node.rows items) ≡ true
+      fetched_rows : every_from (row_sound row_uses.Fetched n) 0 (merge_rows (none_counted node) node.rows items) ≡ true
       unfolding row_use
       fetched_rows = merged_sound (none_counted node) n 0 node.rows items
           (fetching_cases
-          (λ p. every_from (row_sound (row_use p (count_peers node.counted)) n) 0 node.rows ≡ true → every_from (row_sound row_use_lem.Fetched n) 0 node.rows ≡ true)
-          (by_cond (λ (u : RowUse). every_from (row_sound u n) 0 node.rows ≡ true → every_from (row_sound row_use_lem.Fetched n) 0 node.rows ≡ true)
+          (λ p. every_from (row_sound (row_use p (count_peers node.counted)) n) 0 node.rows ≡ true → every_from (row_sound row_uses.Fetched n) 0 node.rows ≡ true)
+          (by_cond (λ (u : RowUse). every_from (row_sound u n) 0 node.rows ≡ true → every_from (row_sound row_uses.Fetched n) 0 node.rows ≡ true)
           (eqb (count_peers node.counted) 0) _ _
-          (λ _. every_weaker (row_sound row_use_lem.Zero n) (row_sound row_use_lem.Fetched n) (unused_fetched n) 0 node.rows) (λ _ h. h))
+          (λ _. every_weaker (row_sound row_uses.Zero n) (row_sound row_uses.Fetched n) (unused_fetched n) 0 node.rows) (λ _ h. h))
           node.phase e S.rows_sound)
           (λ j m. zeros j (omega arith))
 
@@ -181,8 +181,8 @@ module _ (n k : ℕ) (node : Node) (S : Soundly n k node) (s : ℕ) (l : s < n) 
             number_is = S.number_is;
             size_is = S.size_is;
             attempt_fits = S.attempt_fits;
-            rows_sound = rows_in row_use_lem.Fetched n node.phase (count_peers peers) (merge_rows (none_counted node) node.rows items)
-                (fetching_cases (λ p. row_use p (count_peers peers) ≡ row_use_lem.Fetched) (ap (λ (b : Bool). cond b row_use_lem.Zero row_use_lem.Fetched) used) node.phase e)
+            rows_sound = rows_in row_uses.Fetched n node.phase (count_peers peers) (merge_rows (none_counted node) node.rows items)
+                (fetching_cases (λ p. row_use p (count_peers peers) ≡ row_uses.Fetched) (ap (λ (b : Bool). cond b row_uses.Zero row_uses.Fetched) used) node.phase e)
                 fetched_rows;
             counted_sound = peer_set k n node.counted s i l d S.counted_sound;
             asked_sound = S.asked_sound;

@@ -24,7 +24,7 @@ use Rattle.protocol.specs.declared.Node.{Node}
 use Rattle.protocol.specs.declared.Peer.{Peer}
 use Rattle.protocol.specs.declared.Phase.{Phase}
 use Rattle.protocol.specs.declared.RowUse.{RowUse}
-use Rattle.protocol.specs.declared.RowUse.TheVariants as row_use_lem
+use Rattle.protocol.specs.declared.RowUse.TheVariants as row_uses
 use Rattle.protocol.proofs.Counts.{peer_under}
 use Rattle.laws_node.proofs.Every.{every_set, every_same}
 use Rattle.laws_node.proofs.PhaseCases.{storing_cases}
@@ -76,9 +76,9 @@ pub rows_of : (u : RowUse) (n : ℕ) (p : Phase) (c : ℕ) (rows : List Row) →
 rows_of u n p c rows e h = subst (λ (v : RowUse). every_from (row_sound v n) 0 rows ≡ true) e h
 
 pub row_set : (n : ℕ) (rows : List Row) (q : ℕ) (item : Item) (i : Incarnation) (a : Attempt) → q < n
-    → every_from (row_sound row_use_lem.Stored n) 0 rows ≡ true → every_from (row_sound row_use_lem.Stored n) 0 (set rows q (stored_row item i a)) ≡ true
+    → every_from (row_sound row_uses.Stored n) 0 rows ≡ true → every_from (row_sound row_uses.Stored n) 0 (set rows q (stored_row item i a)) ≡ true
 row_set n rows q item i a l h =
-    every_set (row_sound row_use_lem.Stored n) 0 rows q (stored_row item i a) h (λ j d. stored_sound n j item i a (omega arith))
+    every_set (row_sound row_uses.Stored n) 0 rows q (stored_row item i a) h (λ j d. stored_sound n j item i a (omega arith))
 
 absent_sound : (k n j : ℕ) → peer_sound k n j no_peer ≡ true
 unfolding peer_sound same_incarnation
@@ -127,7 +127,7 @@ module _ (n k : ℕ) (node : Node) (number : node.number ≡ k) (size : node.n �
     number_is = number;
     size_is = size;
     attempt_fits = refl;
-    rows_sound = every_same (row_sound row_use_lem.Zero n) zero_row (zero_sound row_use_lem.Zero n) max_nodes 0;
+    rows_sound = every_same (row_sound row_uses.Zero n) zero_row (zero_sound row_uses.Zero n) max_nodes 0;
     counted_sound = none_sound k n;
     asked_sound = none_sound k n;
     counts_fit = refl;
@@ -140,7 +140,7 @@ module _ (n k : ℕ) (node : Node) (number : node.number ≡ k) (size : node.n �
     number_is = number;
     size_is = size;
     attempt_fits = refl;
-    rows_sound = every_same (row_sound row_use_lem.Zero n) zero_row (zero_sound row_use_lem.Zero n) max_nodes 0;
+    rows_sound = every_same (row_sound row_uses.Zero n) zero_row (zero_sound row_uses.Zero n) max_nodes 0;
     counted_sound = none_sound k n;
     asked_sound = none_sound k n;
     counts_fit = and_both (lt-ltb 0 (suc (half n)) (omega arith)) refl;
@@ -150,14 +150,14 @@ module _ (n k : ℕ) (node : Node) (number : node.number ≡ k) (size : node.n �
   -- ---- a write begins
 
   pub begun_sound : (phase : Phase) (a : Attempt) (item : Item) → is_storing phase ≡ true → k < n → 0 < half n
-      → every_from (row_sound row_use_lem.Stored n) 0 node.rows ≡ true → Soundly n k (storing_begun node phase a item)
+      → every_from (row_sound row_uses.Stored n) 0 node.rows ≡ true → Soundly n k (storing_begun node phase a item)
   unfolding storing_begun attempt_fits row_use phase_counts stage_counts count_peers counted_asked
   begun_sound phase a item e l f h = record {
     number_is = number;
     size_is = size;
     attempt_fits = storing_cases (λ p. attempt_fits p a ≡ true) refl refl phase e;
-    rows_sound = rows_in row_use_lem.Stored n phase 0 (set node.rows node.number (stored_row item node.incarnation a))
-        (storing_cases (λ p. row_use p 0 ≡ row_use_lem.Stored) refl refl phase e)
+    rows_sound = rows_in row_uses.Stored n phase 0 (set node.rows node.number (stored_row item node.incarnation a))
+        (storing_cases (λ p. row_use p 0 ≡ row_uses.Stored) refl refl phase e)
         (row_set n node.rows node.number item node.incarnation a (omega arith) h);
     counted_sound = none_sound k n;
     asked_sound = none_sound k n;

@@ -29,7 +29,7 @@ use Rattle.protocol.specs.declared.Answer.TheVariants as answer
 use Rattle.protocol.specs.declared.Event.{Event}
 use Rattle.protocol.specs.declared.Node.{Node}
 use Rattle.protocol.specs.declared.Refusal.{Refusal}
-use Rattle.protocol.specs.declared.RowUse.TheVariants as row_use_lem
+use Rattle.protocol.specs.declared.RowUse.TheVariants as row_uses
 use Rattle.protocol.specs.Shaped.{Shaped}
 use Rattle.protocol.proofs.Grouped.{each_fresh}
 use Rattle.protocol.proofs.InView.{size_fits}
@@ -53,7 +53,7 @@ fresh_node_lem n k =
       number_is = refl;
       size_is = refl;
       attempt_fits = refl;
-      rows_sound = every_same (row_sound row_use_lem.Stored n) zero_row (zero_sound row_use_lem.Stored n) max_nodes 0;
+      rows_sound = every_same (row_sound row_uses.Stored n) zero_row (zero_sound row_uses.Stored n) max_nodes 0;
       counted_sound = none_sound k n;
       asked_sound = none_sound k n;
       counts_fit = refl;

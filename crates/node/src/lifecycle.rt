@@ -1,6 +1,6 @@
 // A node as it is set up, crashes and starts.
 ghost use Rattle.std.specs.Prelude.{◌≡◌};
-ghost use Rattle.protocol.specs.Node.{crashed as crashedNode, started as startedNode, fresh_node};
+ghost use Rattle.protocol.specs.Node.{crashed as crashed_node, started as started_node, fresh_node};
 
 use item::{Attempt, Incarnation, Row};
 use protocol::{Node, Peer, Phase, Stage};
@@ -8,7 +8,7 @@ use protocol::{Node, Peer, Phase, Stage};
 // Down; only number, n and incarnation remain.
 #[tactic(auto, unfolding(protocol::specs::Node::crashed))]
 pub fn crashed(node: Node) -> Node
-    ensures { result ≡ crashedNode node }
+    ensures { result ≡ crashed_node node }
 {
     let incarnation = node.incarnation;
     Node::blank(node.number, node.n, incarnation)
@@ -17,7 +17,7 @@ pub fn crashed(node: Node) -> Node
 // Fetching in the next incarnation, and nothing is known yet.
 #[tactic(auto, unfolding(protocol::specs::Node::started))]
 pub fn started(node: Node) -> Node
-    ensures { result ≡ startedNode node }
+    ensures { result ≡ started_node node }
 {
     let incarnation = node.incarnation;
     let row = Row::zero();

@@ -1,6 +1,6 @@
 // Retry of one node by value: its answer, the node afterwards, and what it sends.
 ghost use Rattle.std.specs.Prelude.{◌≡◌};
-ghost use Rattle.protocol.specs.Write.{retried as retriedNode, nothing_to_retry, retry_step};
+ghost use Rattle.protocol.specs.Write.{retried as retried_node, nothing_to_retry, retry_step};
 
 use crate::requests::{send_fetch, send_store};
 use crate::step::refused;
@@ -11,7 +11,7 @@ use protocol::{Node, Refusal, Stage, Step};
 // The node when its write has begun again, with the same item under the next attempt.
 #[tactic(auto, unfolding(protocol::specs::Write::retried))]
 fn retried(node: Node) -> Node
-    ensures { result ≡ retriedNode node }
+    ensures { result ≡ retried_node node }
 {
     let phase = node.phase;
     let storing = at_stage(phase, Stage::Storing);

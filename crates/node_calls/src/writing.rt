@@ -1,6 +1,6 @@
 // Write of one node by value: its answer, the node afterwards, and what it sends.
 ghost use Rattle.std.specs.Prelude.{◌≡◌};
-ghost use Rattle.protocol.specs.Write.{next_item, write_at_largest, written as writtenNode, write_step};
+ghost use Rattle.protocol.specs.Write.{next_item, write_at_largest, written as written_node, write_step};
 
 use crate::requests::send_store;
 use crate::step::refused;
@@ -35,7 +35,7 @@ fn write_at_largest(node: Node) -> bool
 // The node when its write of the next item has begun.
 #[tactic(auto, unfolding(protocol::specs::Write::written))]
 fn written(node: Node, tag: Tag) -> Node
-    ensures { result ≡ writtenNode node tag }
+    ensures { result ≡ written_node node tag }
 {
     let item = own_item(node);
     let next = next_item(item, tag);

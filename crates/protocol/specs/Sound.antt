@@ -13,7 +13,7 @@ use Rattle.protocol.specs.declared.Peer.{Peer}
 use Rattle.protocol.specs.declared.Phase.{Phase}
 use Rattle.protocol.specs.declared.Phase.TheVariants.{Down, Fetching, Returning, Up}
 use Rattle.protocol.specs.declared.RowUse.{RowUse}
-use Rattle.protocol.specs.declared.RowUse.TheVariants as row_use_lem
+use Rattle.protocol.specs.declared.RowUse.TheVariants as row_uses
 use Rattle.protocol.specs.declared.Stage.{Stage}
 use Rattle.protocol.specs.declared.Stage.TheVariants.{Idle, Storing, Confirming}
 
@@ -25,19 +25,19 @@ every_from test k (x ∷ xs) = test k x && every_from test (suc k) xs
 -- "rows from n on" are zero in every phase; of the rows below n a node Down uses nothing, a node Fetching nothing "until a
 -- table is counted" and then no counters, and the others no marks
 unfoldable pub row_use : Phase → ℕ → RowUse
-row_use Down counted = row_use_lem.Zero
-row_use Fetching counted = cond (eqb counted 0) row_use_lem.Zero row_use_lem.Fetched
-row_use (Returning stage) counted = row_use_lem.Stored
-row_use (Up stage) counted = row_use_lem.Stored
+row_use Down counted = row_uses.Zero
+row_use Fetching counted = cond (eqb counted 0) row_uses.Zero row_uses.Fetched
+row_use (Returning stage) counted = row_uses.Stored
+row_use (Up stage) counted = row_uses.Stored
 
 unfoldable pub row_fits : RowUse → Row → Bool
-row_fits row_use_lem.Zero row = same_row row zero_row
-row_fits row_use_lem.Fetched row =
+row_fits row_uses.Zero row = same_row row zero_row
+row_fits row_uses.Fetched row =
     same_incarnation row.incarnation (record { 0 = 0 }) && same_attempt row.attempt (record { 0 = 0 })
-row_fits row_use_lem.Stored row = not row.marked
+row_fits row_uses.Stored row = not row.marked
 
 unfoldable pub row_sound : RowUse → ℕ → ℕ → Row → Bool
-row_sound held n k row = cond (ltb k n) (row_fits held row) (row_fits row_use_lem.Zero row)
+row_sound held n k row = cond (ltb k n) (row_fits held row) (row_fits row_uses.Zero row)
 
 -- "below n, not itself"; of one that is absent nothing is kept
 unfoldable pub peer_sound : ℕ → ℕ → ℕ → Peer → Bool

@@ -3,7 +3,7 @@ ghost use Rattle.std.specs.Prelude.{◌≡◌};
 ghost use Rattle.protocol.specs.Node.{with_counted, confirming_begun};
 ghost use Rattle.protocol.specs.Phase.{at_stage};
 ghost use Rattle.protocol.specs.declared.Stage.TheVariants as stage;
-ghost use Rattle.sender_view.specs.Decision.{refused_with, ok_with, changed as withChange, step_by};
+ghost use Rattle.sender_view.specs.Decision.{refused_with, ok_with, changed as with_change, step_by};
 
 use item::{Incarnation, Row};
 use node::{confirming_begun, with_counted, with_row, write_ended};
@@ -66,7 +66,7 @@ fn confirming(node: Node, sender: usize, incarnation: Incarnation) -> Node
 // The node with what changes of it.
 #[tactic(auto, unfolding(crate::specs::Decision::changed))]
 pub fn changed(node: Node, sender: usize, change: NodeChange) -> Node
-    ensures { result ≡ withChange node sender change }
+    ensures { result ≡ with_change node sender change }
 {
     match change {
         NodeChange::Nothing => node,
