@@ -4,33 +4,11 @@
 use mathlib.Core.Path.{◌≡◌, sym, ◌∙◌}
 use lib.ListN.{length}
 use native.Mathlib.Omega.{arith}
-use borrow.Author.Tests.{eq-eqb, ne_eqb}
 use Rattle.item.specs.Maxima.{max_nodes}
 use Rattle.item.specs.Tests.{granted}
-use Rattle.protocol.specs.Sound.{sound_node}
 use Rattle.node.proofs.Array.{length_mapped}
 use Rattle.node_sound.proofs.Resting.{rest_sound, rest_rows, rest_unused}
 use Rattle.node_sound.proofs.node_sound.Goals as goal
-
-pub returns-then-node-place : goal.returns-then-node-place
-unfolding sound_node
-returns-then-node-place c = rw (ne_eqb _ _ c.if-node-place.true)
-
-pub returns-then-node-n : goal.returns-then-node-n
-unfolding sound_node
-returns-then-node-n c = rw (eq-eqb _ _ c.if-node-place.false, ne_eqb _ _ c.if-node-n.true)
-
-pub fields_sound-requires : goal.fields_sound-requires
-fields_sound-requires c = (c.if-node-place.false, c.if-node-n.false)
-
-pub returns-then-not-at_rest : goal.returns-then-not-at_rest
-returns-then-not-at_rest c = c.fields_sound.ensures
-
-pub fields_sound-requires-then-not-is_up_idle : goal.fields_sound-requires-then-not-is_up_idle
-fields_sound-requires-then-not-is_up_idle c = (c.if-node-place.false, c.if-node-n.false)
-
-pub returns-then-not-is_up_idle : goal.returns-then-not-is_up_idle
-returns-then-not-is_up_idle c = c.fields_sound-then-not-is_up_idle.ensures
 
 pub returns-then-n-ge-MAX_ROWS : goal.returns-then-n-ge-MAX_ROWS
 returns-then-n-ge-MAX_ROWS c =
