@@ -50,11 +50,3 @@ pub struct Outgoing {
     pub present: bool,
     pub envelope: Envelope,
 }
-
-// A message, or none: what reading a record gives, and what a call delivers.
-#[derive(Clone, Copy, PartialEq, Eq)]
-pub enum Reading {
-    Found(Envelope),
-    // No message: an unknown kind, or an unused byte that is not 0.
-    Fault,
-}

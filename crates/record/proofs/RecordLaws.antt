@@ -14,14 +14,13 @@ use Rattle.record.specs.Chunk.{chunk, with_chunk}
 use Rattle.record.specs.Layout.{record_of, with_record, record_size, fields_in}
 use Rattle.message.specs.declared.Message.{Message}
 use Rattle.record.specs.declared.kinds.Fields.{Fields}
-use Rattle.record.specs.declared.kinds.Known.TheVariants as known
-use Rattle.message.specs.declared.Reading.TheVariants.{Found}
 use Rattle.record.specs.Kind.{message_of}
 use Rattle.record.specs.Record.{read_record, read_as, zero_after_rows, envelope_of}
+use Rattle.std.specs.Prelude.{Some}
 
 -- a record whose fields are a message, with zeros after its rows
 pub read_found : (n : ℕ) (r : List ℕ) (f : Fields) (m : Message) → length r ≡ record_size → f ≡ fields_in r
-    → message_of f ≡ known.Known m → zero_after_rows n m r ≡ true → read_record n r ≡ Found (envelope_of f m)
+    → message_of f ≡ Some m → zero_after_rows n m r ≡ true → read_record n r ≡ Some (envelope_of f m)
 unfolding read_record read_as
 read_found n r f m l ef em z = rw (eq-eqb (length r) record_size l, ← ef, em, z, ef)
 

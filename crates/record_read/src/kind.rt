@@ -5,7 +5,7 @@ ghost use Rattle.record_read.specs.Known.{is_known};
 
 use item::{Attempt, Incarnation, Item};
 use message::Message;
-use record::kinds::{CONFIRM, CONFIRMED, FETCH, Fields, Known, STORE, STORED, TABLE};
+use record::kinds::{CONFIRM, CONFIRMED, FETCH, Fields, STORE, STORED, TABLE};
 
 // Whether there is neither attempt nor item.
 #[tactic(auto, unfolding(record::specs::Kind::no_write))]
@@ -18,18 +18,18 @@ fn no_write(attempt: Attempt, item: Item) -> bool
     item.same(Item::zero())
 }
 
-fn known_if(ok: bool, message: Message) -> Known
+fn known_if(ok: bool, message: Message) -> Option<Message>
     ensures { result ≡ known_if ok message }
 {
     if ok {
-        return Known::Known(message);
+        return Some(message);
     }
-    Known::Unknown
+    None
 }
 
 // The message that fields say, if its kind is known and what it does not use is 0.
 #[tactic(auto, unfolding(record::specs::Kind::message_of))]
-pub fn message_of(fields: Fields) -> Known
+pub fn message_of(fields: Fields) -> Option<Message>
     ensures { result ≡ message_of fields }
 {
     let kind = fields.kind;
@@ -40,29 +40,29 @@ pub fn message_of(fields: Fields) -> Known
     let no_write = no_write(attempt, item);
     match kind {
         STORE => known_if(no_other, Message::Store { attempt, item }),
-        STORED => Known::Known(Message::Stored {
+        STORED => Some(Message::Stored {
             other,
             attempt,
             item,
         }),
-        CONFIRM => Known::Known(Message::Confirm {
+        CONFIRM => Some(Message::Confirm {
             other,
             attempt,
             item,
         }),
-        CONFIRMED => Known::Known(Message::Confirmed {
+        CONFIRMED => Some(Message::Confirmed {
             other,
             attempt,
             item,
         }),
         FETCH => {
             if !no_other {
-                return Known::Unknown;
+                return None;
             }
             known_if(no_write, Message::Fetch)
         }
         TABLE => known_if(no_write, Message::Table { other }),
-        _ => Known::Unknown,
+        _ => None,
     }
 }
 

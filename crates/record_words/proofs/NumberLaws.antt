@@ -23,16 +23,16 @@ use Rattle.endian.specs.Number.{number_at}
 use Rattle.record.specs.Kind.{message_of, rows_held}
 use Rattle.record.specs.Layout.{rows_at, row_size, index_size, item_in, rows_of}
 use Rattle.record.specs.declared.kinds.Fields.{Fields}
-use Rattle.record.specs.declared.kinds.Known.TheVariants as known
 use Rattle.record.specs.Record.{envelope_of}
 use Rattle.record_read.specs.Readable.{rows_of_kind}
 use Rattle.record_read.proofs.Reading.{length_rows, row_at}
 use Rattle.record_read.proofs.ReadableLaws.{rows_read}
 use Rattle.record_read.specs.Known.{is_known}
 use Rattle.message.specs.declared.Envelope.{Envelope}
-use Rattle.record.specs.declared.kinds.Known.{Known}
 use Rattle.record_words.specs.declared.words.Stated.TheVariants.{Message, Refused}
 use Rattle.record_words.specs.Numbers.{rows_first, rows_count, number_count, field_numbers, row_numbers, numbers_of, item_from, fields_from, items_from, rows_from, numbers_fit, stated_as, stated, is_stated}
+use Rattle.std.specs.Prelude.{None, Option, Some}
+use Rattle.message.specs.declared.Message.{Message}
 
 -- ---- which numbers fit
 
@@ -182,9 +182,9 @@ stated_known n ns h = rw h (said (message_of (fields_from ns)) refl)
     stated_if true e = refl
     stated_if false e = refl
 
-    said : (k : Known) → message_of (fields_from ns) ≡ k → is_stated (stated_as n k ns) ≡ zero_after (rows_of_kind (fields_from ns).kind n) && is_known k
-    said known.Unknown e = sym (and-false (zero_after (rows_of_kind (fields_from ns).kind n)))
-    said (known.Known m) e =
+    said : (k : Option Message) → message_of (fields_from ns) ≡ k → is_stated (stated_as n k ns) ≡ zero_after (rows_of_kind (fields_from ns).kind n) && is_known k
+    said None e = sym (and-false (zero_after (rows_of_kind (fields_from ns).kind n)))
+    said (Some m) e =
         stated_if (zero_after (rows_held m n)) (envelope_of (fields_from ns) m)
         ∙ ap (λ (k : ℕ). zero_after k && true) (rows_read (fields_from ns) m n e)
 

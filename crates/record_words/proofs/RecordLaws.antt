@@ -21,10 +21,11 @@ use Rattle.record_words.proofs.NumberLaws.{length_field_numbers, length_row_numb
 use Rattle.record_words.proofs.ReadBackLaws.{bytes_straight}
 use Rattle.record.specs.Record.{read_record}
 use Rattle.record.proofs.RecordLaws.{record_none, length_record_of, record_lent, record_back}
-use Rattle.message.specs.declared.Reading.{Reading}
 use Rattle.record_read.specs.Readable.{readable}
 use Rattle.record_read.proofs.ReadableLaws.{holds}
 use Rattle.record_words.specs.Records.{may_read, numbers_read, may_write, bytes_written}
+use Rattle.std.specs.Prelude.{Option}
+use Rattle.message.specs.declared.Envelope.{Envelope}
 
 length_numbers : (next : ℕ) (f : Fields) (rows : List Item) → length rows ≡ max_nodes → length (numbers_of next f rows) ≡ number_count
 unfolding numbers_of
@@ -40,7 +41,7 @@ numbers_straight n r ns next f l h en ef =
     let m = holds n r h in
     with_all number_count ns (numbers_of next f (rows_of r)) l (length_numbers next f (rows_of r) (length_rows r))
     ∙ (λ j. numbers_of (en j) ((ef ∙ sym m.fields) j) (rows_of r))
-    ∙ sym (ap (λ (a : Reading). numbers_as a r) m.found)
+    ∙ sym (ap (λ (a : Option Envelope). numbers_as a r) m.found)
 
 module _ (s : List ℕ) (i n : ℕ) (ns : List ℕ) where
   -- ---- reading

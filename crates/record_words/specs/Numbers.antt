@@ -1,20 +1,18 @@
 -- The numbers of a record, in the order of document 01's layout: "next; kind; sender .. addressee; sender's incarnation;
 -- other incarnation; attempt; index; tag; .. fifteen rows of index and tag".
-use Rattle.std.specs.Prelude.{ℕ, zero, suc, ◌+◌, ◌*◌, ◌^◌, Bool, true, false, ◌&&◌, cond, List, [], ◌∷◌, ◌++◌, eqb, ltb, length, get_or, drop}
+use Rattle.std.specs.Prelude.{ℕ, zero, suc, ◌+◌, ◌*◌, ◌^◌, Bool, true, false, ◌&&◌, cond, List, [], ◌∷◌, ◌++◌, eqb, ltb, length, get_or, drop, None, Option, Some}
 use Rattle.item.specs.Maxima.{max_nodes}
 use Rattle.item.specs.declared.Item.{Item}
 use Rattle.endian.specs.Zero.{all_zero}
 use Rattle.record.specs.Kind.{fields_of, message_of, rows_held}
 use Rattle.record.specs.declared.kinds.Fields.{Fields}
-use Rattle.record.specs.declared.kinds.Known.{Known}
-use Rattle.record.specs.declared.kinds.Known.TheVariants as known
 use Rattle.record.specs.Layout.{next_of, rows_of}
 use Rattle.record.specs.Record.{envelope_of, record_bytes, read_record}
 unfoldable pub use Rattle.record_read.specs.Readable.{is_found}
-use Rattle.message.specs.declared.Reading.{Reading}
-use Rattle.message.specs.declared.Reading.TheVariants.{Found, Fault}
 use Rattle.record_words.specs.declared.words.Stated.{Stated}
 use Rattle.record_words.specs.declared.words.Stated.TheVariants.{Message, Refused}
+use Rattle.message.specs.declared.Envelope.{Envelope}
+use Rattle.message.specs.declared.Message.{Message}
 
 -- where the rows begin, how many numbers they are, and how many all are
 abbrev pub rows_first : ℕ
@@ -72,9 +70,9 @@ numbers_fit ns =
     (ltb (get_or ns 4 0) (2 ^ 32) && (ltb (get_or ns 5 0) (2 ^ 32) && ltb (get_or ns 6 0) (2 ^ 32)))))))
 
 -- the message that fitting numbers say in a group of n, if every number after its rows is 0: nothing handed in is lost
-unfoldable pub stated_as : ℕ → Known → List ℕ → Stated
-stated_as n known.Unknown ns = Refused
-stated_as n (known.Known m) ns =
+unfoldable pub stated_as : ℕ → Option Message → List ℕ → Stated
+stated_as n None ns = Refused
+stated_as n (Some m) ns =
     cond (all_zero (drop (rows_first + 2 * rows_held m n) ns)) (Message (get_or ns 0 0) (envelope_of (fields_from ns) m)) Refused
 
 unfoldable pub stated : ℕ → List ℕ → Stated
@@ -83,9 +81,9 @@ stated n ns = cond (numbers_fit ns) (stated_as n (message_of (fields_from ns)) n
 -- ---- numbers and bytes
 
 -- the numbers of a record that is a message in a group of n; none where it is no message
-unfoldable pub numbers_as : Reading → List ℕ → List ℕ
-numbers_as Fault r = []
-numbers_as (Found e) r = numbers_of (next_of r) (fields_of e) (rows_of r)
+unfoldable pub numbers_as : Option Envelope → List ℕ → List ℕ
+numbers_as None r = []
+numbers_as (Some e) r = numbers_of (next_of r) (fields_of e) (rows_of r)
 
 unfoldable pub record_numbers : ℕ → List ℕ → List ℕ
 record_numbers n r = numbers_as (read_record n r) r

@@ -1,11 +1,9 @@
 -- A sound store (document 01): "n is valid, the head is zero where said above, every record from 1 stands once on exactly
 -- one chain (free or inbox), free records are zero after next, and inbox records are readable with sender below n, not
 -- the addressee, and addressee the inbox's owner". One pass follows every chain, and at its end every record was passed.
-use Rattle.std.specs.Prelude.{ℕ, zero, suc, Bool, true, false, cond, not, ◌&&◌, List, [], ◌∷◌, eqb, ltb, length, replicate, set}
+use Rattle.std.specs.Prelude.{ℕ, zero, suc, Bool, true, false, cond, not, ◌&&◌, List, [], ◌∷◌, eqb, ltb, length, replicate, set, None, Option, Some}
 use Rattle.item.specs.Maxima.{valid_size}
 use Rattle.record.specs.Record.{read_record, zero_after_next}
-use Rattle.message.specs.declared.Reading.{Reading}
-use Rattle.message.specs.declared.Reading.TheVariants.{Found, Fault}
 use Rattle.store.specs.Records.{record_count, right_length, records_of, record_in}
 use Rattle.store.specs.Head.{first_free, group_size, first_of, head_zero}
 use Rattle.store.specs.Chain.{walked, walk}
@@ -13,11 +11,12 @@ use Rattle.store.specs.declared.Survey.{Survey}
 use Rattle.store.specs.declared.chain.Chain.{Chain}
 use Rattle.store.specs.declared.chain.Chain.TheVariants.{Free, Inbox}
 use Rattle.store.specs.declared.Walked.{Walked}
+use Rattle.message.specs.declared.Envelope.{Envelope}
 
 -- "readable with sender below n, not the addressee, and addressee the inbox's owner"
-unfoldable pub addressed_to : ℕ → ℕ → Reading → Bool
-addressed_to n owner Fault = false
-addressed_to n owner (Found e) =
+unfoldable pub addressed_to : ℕ → ℕ → Option Envelope → Bool
+addressed_to n owner None = false
+addressed_to n owner (Some e) =
     ltb e.sender n && (not (eqb e.sender e.addressee) && eqb e.addressee owner)
 
 unfoldable pub belongs_to : ℕ → ℕ → List ℕ → Bool
@@ -72,12 +71,12 @@ unfoldable pub free_count : List (List ℕ) → ℕ
 free_count rs = (walk_free rs).count
 
 -- the message in record r: on an inbox chain of a sound store exactly the records 1 and up that read as one
-unfoldable pub message_in : List (List ℕ) → ℕ → Reading
-message_in rs r = cond (eqb r 0) Fault (read_record (group_size rs) (record_in rs r))
+unfoldable pub message_in : List (List ℕ) → ℕ → Option Envelope
+message_in rs r = cond (eqb r 0) None (read_record (group_size rs) (record_in rs r))
 
 -- and of bytes that may be no store
-unfoldable pub message_at : List ℕ → ℕ → Reading
-message_at s r = cond (right_length s) (message_in (records_of s) r) Fault
+unfoldable pub message_at : List ℕ → ℕ → Option Envelope
+message_at s r = cond (right_length s) (message_in (records_of s) r) None
 
 -- of an unsound store nothing is found but that
 abbrev pub unsound : Survey
