@@ -10,7 +10,7 @@ use engine::{crash, retry, start, write};
 pub use event::inspect::{drop_target, inspect, read};
 pub use event::{Inspection, NodeResult, drop_record};
 use event::{carry_out, drop_message, first_verdict, refused};
-use message::Reading;
+use message::Envelope;
 use protocol::{Event, Node, Refusal, Step, Verdict};
 
 // The decision of node `k`, where the group has this node.
@@ -28,7 +28,7 @@ fn on_sound(
     s: &mut [u8],
     node: Node,
     seen: Inspection,
-    reading: Reading,
+    reading: Option<Envelope>,
     event: Event,
 ) -> NodeResult
     ensures { (result ≡ handed_back (on_sound event node s.old seen reading)) × (s.new ≡ (on_sound event node s.old seen reading).store) }
@@ -53,7 +53,7 @@ pub fn act(
     node: Node,
     sound_table: bool,
     seen: Inspection,
-    reading: Reading,
+    reading: Option<Envelope>,
     event: Event,
 ) -> NodeResult
     ensures { (result ≡ handed_back (perform_at event sound_table seen reading node s.old)) × (s.new ≡ (perform_at event sound_table seen reading node s.old).store) }

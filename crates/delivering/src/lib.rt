@@ -9,7 +9,7 @@ ghost use Rattle.event.specs.Act.{handed_back, carried_out, delivered};
 use engine::{Decided, decide, on_table};
 use event::{NodeResult, carry_decision, carry_out, refused};
 use item::Incarnation;
-use message::Reading;
+use message::Envelope;
 use protocol::{Node, Refusal};
 use sender_view::view_of;
 
@@ -37,12 +37,12 @@ pub fn deliver_message(
     s: &mut [u8],
     node: Node,
     free: usize,
-    reading: Reading,
+    reading: Option<Envelope>,
     r: u64,
 ) -> NodeResult
     ensures { (result ≡ handed_back (delivered reading node s.old free r)) × (s.new ≡ (delivered reading node s.old free r).store) }
 {
-    let Reading::Found(envelope) = reading else {
+    let Some(envelope) = reading else {
         return refused(Refusal::NoMessage, node);
     };
     let sender = envelope.sender;

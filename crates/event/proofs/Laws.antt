@@ -9,8 +9,6 @@ use lib.ListN.{length}
 use Rattle.item.specs.declared.Tag.{Tag}
 use Rattle.message.specs.declared.Envelope.{Envelope}
 use Rattle.record.specs.Layout.{record_size, record_of, rows_of}
-use Rattle.message.specs.declared.Reading.{Reading}
-use Rattle.message.specs.declared.Reading.TheVariants.{Found, Fault}
 use Rattle.store.specs.Records.{record_count, right_length, on_records}
 use Rattle.store.specs.Change.{put_each, count_outgoing, drop_in}
 use Rattle.protocol.specs.Deliver.{deliver_step}
@@ -29,6 +27,7 @@ use Rattle.protocol.specs.declared.Verdict.{Verdict}
 use Rattle.protocol.specs.declared.Verdict.TheVariants.{Take, Refuse}
 use Rattle.event.specs.declared.Inspection.{Inspection}
 use Rattle.event.specs.Act.{drop_target_of, refuse, sent_by, carried_out, at_node, dropped, delivered, on_sound, first_verdict, admitted, perform_at}
+use Rattle.std.specs.Prelude.{None, Option, Some}
 
 module _ (node : Node) (store : List ℕ) (free back : ℕ) (step : Step) where
   pub carried_refused : is_refused step.answer ≡ true → carried_out node store free back step ≡ record { answer = step.answer; node = node; store = store }
@@ -54,26 +53,26 @@ module _ (node : Node) (store : List ℕ) (seen : Inspection) (k : ℕ) (step : 
   unfolding at_node
   at_some h = rw (lt-ltb k seen.n h)
 
-module _ (node : Node) (store : List ℕ) (r : ℕ) {m : Reading} where
-  pub dropped_none : m ≡ Fault → dropped m node store r ≡ refuse NoMessage node store
+module _ (node : Node) (store : List ℕ) (r : ℕ) {m : Option Envelope} where
+  pub dropped_none : m ≡ None → dropped m node store r ≡ refuse NoMessage node store
   unfolding dropped
-  dropped_none e = ap (λ (k : Reading). dropped k node store r) e
+  dropped_none e = ap (λ (k : Option Envelope). dropped k node store r) e
 
-  pub dropped_some : {e : Envelope} → m ≡ Found e → dropped m node store r ≡ record { answer = answer.Ok; node = node; store = on_records (λ rs. drop_in rs e.addressee r) store }
+  pub dropped_some : {e : Envelope} → m ≡ Some e → dropped m node store r ≡ record { answer = answer.Ok; node = node; store = on_records (λ rs. drop_in rs e.addressee r) store }
   unfolding dropped
-  dropped_some e = ap (λ (k : Reading). dropped k node store r) e
+  dropped_some e = ap (λ (k : Option Envelope). dropped k node store r) e
 
-  pub delivered_none : (free : ℕ) → m ≡ Fault → delivered m node store free r ≡ refuse NoMessage node store
+  pub delivered_none : (free : ℕ) → m ≡ None → delivered m node store free r ≡ refuse NoMessage node store
   unfolding delivered
-  delivered_none free e = ap (λ (k : Reading). delivered k node store free r) e
+  delivered_none free e = ap (λ (k : Option Envelope). delivered k node store free r) e
 
-  pub delivered_some : (free : ℕ) {e : Envelope} (step : Step) → m ≡ Found e → step ≡ deliver_step node e (rows_of (record_of store r))
+  pub delivered_some : (free : ℕ) {e : Envelope} (step : Step) → m ≡ Some e → step ≡ deliver_step node e (rows_of (record_of store r))
       → delivered m node store free r ≡ carried_out node store free e.sender step
   unfolding delivered
   delivered_some free {e} step em es =
-      ap (λ (k : Reading). delivered k node store free r) em ∙ ap (carried_out node store free e.sender) (sym es)
+      ap (λ (k : Option Envelope). delivered k node store free r) em ∙ ap (carried_out node store free e.sender) (sym es)
 
-module _ (node : Node) (store : List ℕ) (seen : Inspection) (reading : Reading) {e : Event} where
+module _ (node : Node) (store : List ℕ) (seen : Inspection) (reading : Option Envelope) {e : Event} where
   pub sound_write : {k : ℕ} {tag : Tag} (step : Step) → e ≡ event.Write k tag → step ≡ write_step node tag → on_sound e node store seen reading ≡ at_node node store seen k step
   unfolding on_sound
   sound_write {k} step p q = ap (λ (v : Event). on_sound v node store seen reading) p ∙ ap (at_node node store seen k) (sym q)
@@ -115,7 +114,7 @@ module _ (store : List ℕ) (t : Bool) (seen : Inspection) where
   unfolding first_verdict
   first_taken p q h = rw (p, q, h)
 
-  module _ (reading : Reading) (e : Event) (node : Node) where
+  module _ (reading : Option Envelope) (e : Event) (node : Node) where
     pub acted_refused : {why : Refusal} → first_verdict store t seen ≡ Refuse why → perform_at e t seen reading node store ≡ refuse why node store
     unfolding perform_at admitted
     acted_refused p = ap (λ (v : Verdict). admitted v node store (on_sound e node store seen reading)) p
@@ -126,12 +125,12 @@ module _ (store : List ℕ) (t : Bool) (seen : Inspection) where
 
 -- ---- a Drop looks at no node
 
-pub dropped_node : (m : Reading) (node : Node) (store : List ℕ) (r : ℕ) → (dropped m node store r).node ≡ node
+pub dropped_node : (m : Option Envelope) (node : Node) (store : List ℕ) (r : ℕ) → (dropped m node store r).node ≡ node
 unfolding dropped
-dropped_node Fault node store r = refl
-dropped_node (Found e) node store r = refl
+dropped_node None node store r = refl
+dropped_node (Some e) node store r = refl
 
-pub drop_node : (r : ℕ) (t : Bool) (seen : Inspection) (reading : Reading) (node : Node) (store : List ℕ) → (perform_at (event.Drop r) t seen reading node store).node ≡ node
+pub drop_node : (r : ℕ) (t : Bool) (seen : Inspection) (reading : Option Envelope) (node : Node) (store : List ℕ) → (perform_at (event.Drop r) t seen reading node store).node ≡ node
 unfolding perform_at admitted on_sound
 drop_node r t seen reading node store = go (first_verdict store t seen)
   where

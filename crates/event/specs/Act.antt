@@ -1,10 +1,8 @@
 -- An event at one node by value, with the store: the shape of `perform`, where the table is one node and a mark whether
 -- the table is sound.
-use Rattle.std.specs.Prelude.{ℕ, Bool, true, false, cond, ◌&&◌, List, ltb}
+use Rattle.std.specs.Prelude.{ℕ, Bool, true, false, cond, ◌&&◌, List, ltb, None, Option, Some}
 use Rattle.message.specs.declared.Outgoing.{Outgoing}
 use Rattle.record.specs.Layout.{record_of, rows_of}
-use Rattle.message.specs.declared.Reading.{Reading}
-use Rattle.message.specs.declared.Reading.TheVariants.{Found, Fault}
 use Rattle.store.specs.Records.{right_length, on_records}
 use Rattle.store.specs.Sound.{survey, message_at}
 use Rattle.store.specs.Change.{put_each, count_outgoing, drop_in}
@@ -26,25 +24,26 @@ use Rattle.protocol.specs.declared.Verdict.TheVariants.{Take, Refuse}
 use Rattle.event.specs.declared.NodeResult.{NodeResult}
 use Rattle.event.specs.declared.DropTarget.{DropTarget}
 use Rattle.event.specs.declared.Inspection.{Inspection}
+use Rattle.message.specs.declared.Envelope.{Envelope}
 
 -- ---- before the table is read
 
 -- the message in the event's record; none where it names no record
-unfoldable pub reading_of : Event → List ℕ → Reading
-reading_of (event.Write k tag) store = Fault
-reading_of (event.Retry k) store = Fault
-reading_of (event.Crash k) store = Fault
-reading_of (event.Start k) store = Fault
+unfoldable pub reading_of : Event → List ℕ → Option Envelope
+reading_of (event.Write k tag) store = None
+reading_of (event.Retry k) store = None
+reading_of (event.Crash k) store = None
+reading_of (event.Start k) store = None
 reading_of (event.Drop r) store = message_at store r
 reading_of (event.Deliver r) store = message_at store r
 
 -- the addressee of a message; 0 where there is none
-unfoldable pub addressee_of : Reading → ℕ
-addressee_of Fault = 0
-addressee_of (Found e) = e.addressee
+unfoldable pub addressee_of : Option Envelope → ℕ
+addressee_of None = 0
+addressee_of (Some e) = e.addressee
 
 -- whose event it is: the node number given, or the addressee of the message
-unfoldable pub place_of : Event → Reading → ℕ
+unfoldable pub place_of : Event → Option Envelope → ℕ
 place_of (event.Write k tag) reading = k
 place_of (event.Retry k) reading = k
 place_of (event.Crash k) reading = k
@@ -53,7 +52,7 @@ place_of (event.Drop r) reading = addressee_of reading
 place_of (event.Deliver r) reading = addressee_of reading
 
 -- what is seen of store and event, where this is read of its record
-unfoldable pub inspection_of : Event → List ℕ → Reading → Inspection
+unfoldable pub inspection_of : Event → List ℕ → Option Envelope → Inspection
 inspection_of e store reading =
     record {
       sound = (survey store).sound;
@@ -114,18 +113,18 @@ at_node node store look k step =
     cond (ltb k look.n) (carried_out node store look.free k step) (refuse NoNode node store)
 
 -- "8: not on an inbox chain"
-unfoldable pub dropped : Reading → Node → List ℕ → ℕ → Outcome
-dropped Fault node store r = refuse NoMessage node store
-dropped (Found e) node store r =
+unfoldable pub dropped : Option Envelope → Node → List ℕ → ℕ → Outcome
+dropped None node store r = refuse NoMessage node store
+dropped (Some e) node store r =
     record { answer = answer.Ok; node = node; store = on_records (λ rs. drop_in rs e.addressee r) store }
 
-unfoldable pub delivered : Reading → Node → List ℕ → ℕ → ℕ → Outcome
-delivered Fault node store free r = refuse NoMessage node store
-delivered (Found e) node store free r =
+unfoldable pub delivered : Option Envelope → Node → List ℕ → ℕ → ℕ → Outcome
+delivered None node store free r = refuse NoMessage node store
+delivered (Some e) node store free r =
     carried_out node store free e.sender (deliver_step node e (rows_of (record_of store r)))
 
 -- an event on a sound table and store
-unfoldable pub on_sound : Event → Node → List ℕ → Inspection → Reading → Outcome
+unfoldable pub on_sound : Event → Node → List ℕ → Inspection → Option Envelope → Outcome
 on_sound (event.Write k tag) node store look reading = at_node node store look k (write_step node tag)
 on_sound (event.Retry k) node store look reading = at_node node store look k (retry_step node)
 on_sound (event.Crash k) node store look reading = at_node node store look k (crash_step node)
@@ -143,6 +142,6 @@ unfoldable pub admitted : Verdict → Node → List ℕ → Outcome → Outcome
 admitted (Refuse why) node store o = refuse why node store
 admitted Take node store o = o
 
-unfoldable pub perform_at : Event → Bool → Inspection → Reading → Node → List ℕ → Outcome
+unfoldable pub perform_at : Event → Bool → Inspection → Option Envelope → Node → List ℕ → Outcome
 perform_at e sound_table look reading node store =
     admitted (first_verdict store sound_table look) node store (on_sound e node store look reading)

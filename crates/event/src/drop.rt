@@ -6,14 +6,14 @@ ghost use Rattle.event.specs.Act.{dropped, perform_at};
 
 use crate::Inspection;
 use crate::precheck::first_verdict;
-use message::Reading;
+use message::Envelope;
 use protocol::{Answer, Refusal, Verdict};
 
 // Drop of the message `reading` in record `r`: the answer and the store are the same whatever the node is.
-pub fn drop_message(s: &mut [u8], reading: Reading, r: u64) -> Answer
+pub fn drop_message(s: &mut [u8], reading: Option<Envelope>, r: u64) -> Answer
     ensures { (node : Node) → (result ≡ (dropped reading node s.old r).answer) × (s.new ≡ (dropped reading node s.old r).store) }
 {
-    let Reading::Found(envelope) = reading else {
+    let Some(envelope) = reading else {
         return Answer::Refused(Refusal::NoMessage);
     };
     store_change::drop_message(s, envelope.addressee, r);
@@ -25,7 +25,7 @@ pub fn drop_record(
     s: &mut [u8],
     sound_table: bool,
     seen: Inspection,
-    reading: Reading,
+    reading: Option<Envelope>,
     number: u64,
 ) -> Answer
     ensures { (node : Node) → (result ≡ (perform_at (Drop number) sound_table seen reading node s.old).answer) × (s.new ≡ (perform_at (Drop number) sound_table seen reading node s.old).store) }

@@ -3,23 +3,23 @@ ghost use Rattle.std.specs.Prelude.{◌≡◌};
 ghost use Rattle.event.specs.Act.{reading_of, addressee_of, place_of, no_drop, drop_target_of, inspection_of};
 
 use crate::{DropTarget, Inspection};
-use message::Reading;
+use message::Envelope;
 use protocol::Event;
 
 // The addressee of a message; 0 where there is none.
 #[tactic(auto, unfolding(crate::specs::Act::addressee_of))]
-fn addressee(reading: Reading) -> usize
+fn addressee(reading: Option<Envelope>) -> usize
     ensures { result ≡ addressee_of reading }
 {
     match reading {
-        Reading::Found(envelope) => envelope.addressee,
-        Reading::Fault => 0,
+        Some(envelope) => envelope.addressee,
+        None => 0,
     }
 }
 
 // Whose event it is: the node number given, or the addressee of the message.
 #[tactic(auto, unfolding(crate::specs::Act::place_of))]
-fn place(event: Event, reading: Reading) -> usize
+fn place(event: Event, reading: Option<Envelope>) -> usize
     ensures { result ≡ place_of event reading }
 {
     match event {
@@ -62,14 +62,14 @@ pub fn drop_target(event: Event) -> DropTarget
 
 // The message in the event's record; none where it names no record.
 #[tactic(auto, unfolding(crate::specs::Act::reading_of))]
-pub fn read(s: &[u8], event: Event) -> Reading
+pub fn read(s: &[u8], event: Event) -> Option<Envelope>
     ensures { result ≡ reading_of event s.now }
 {
     match event {
-        Event::Write { node: _, tag: _ } => Reading::Fault,
-        Event::Retry { node: _ } => Reading::Fault,
-        Event::Crash { node: _ } => Reading::Fault,
-        Event::Start { node: _ } => Reading::Fault,
+        Event::Write { node: _, tag: _ } => None,
+        Event::Retry { node: _ } => None,
+        Event::Crash { node: _ } => None,
+        Event::Start { node: _ } => None,
         Event::Drop { record } => store_access::message(s, record),
         Event::Deliver { record } => store_access::message(s, record),
     }
@@ -77,7 +77,7 @@ pub fn read(s: &[u8], event: Event) -> Reading
 
 // What is seen of store and event, where `reading` is the message in the event's record.
 #[tactic(auto, unfolding(crate::specs::Act::inspection_of))]
-pub fn inspect(s: &[u8], event: Event, reading: Reading) -> Inspection
+pub fn inspect(s: &[u8], event: Event, reading: Option<Envelope>) -> Inspection
     ensures { result ≡ inspection_of event s.now reading }
 {
     let survey = store_check::check_store(s);

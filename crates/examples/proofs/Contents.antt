@@ -15,8 +15,6 @@ use Rattle.item.specs.declared.Item.{Item}
 use Rattle.message.specs.Rows.{held_rows}
 use Rattle.message.specs.declared.Envelope.{Envelope}
 use Rattle.message.specs.declared.Outgoing.{Outgoing}
-use Rattle.message.specs.declared.Reading.{Reading}
-use Rattle.message.specs.declared.Reading.TheVariants.{Found, Fault}
 use Rattle.record.specs.Layout.{rows_of}
 use Rattle.store.specs.Change.{put_in, put_each, count_outgoing, empty_records}
 use Rattle.store.specs.Head.{first_free, group_size}
@@ -33,11 +31,12 @@ use Rattle.store_laws.proofs.Times.{by_same}
 use Rattle.protocol.specs.Network.{Packet}
 use Rattle.operations.proofs.Inbox as inbox
 use Rattle.examples.proofs.Fits.{fits, goes, read_rows}
+use Rattle.std.specs.Prelude.{None, Option, Some}
 
 -- the message in record r, and the items beside it
-unfoldable pub found : List Packet → ℕ → Reading
-found [] r = Fault
-found (l ∷ sent) r = cond (eqb r (suc (length sent))) (Found l.envelope) (found sent r)
+unfoldable pub found : List Packet → ℕ → Option Envelope
+found [] r = None
+found (l ∷ sent) r = cond (eqb r (suc (length sent))) (Some l.envelope) (found sent r)
 
 unfoldable pub beside : List Packet → ℕ → List Item
 beside [] r = []
@@ -53,7 +52,7 @@ pub record Holds (n : ℕ) (rs : List (List ℕ)) (sent : List Packet) : Type 0 
   pub size : group_size rs ≡ n
   pub free : free_list rs ≡ numbers_from (free_after sent) (suc (length sent))
   pub messages : (r : ℕ) → message_in rs r ≡ found sent r
-  pub items : (r : ℕ) (e : Envelope) → found sent r ≡ Found e → rows_of (record_in rs r) ≡ beside sent r
+  pub items : (r : ℕ) (e : Envelope) → found sent r ≡ Some e → rows_of (record_in rs r) ≡ beside sent r
 
 -- ---- none
 
@@ -69,7 +68,7 @@ holds_none n valid =
       messages = λ r. by_same r 0
           (λ z. ap (message_in (empty_records record_count n)) z ∙ message_head (empty_records record_count n))
           (λ d. message_read (empty_records record_count n) r d ∙ empty_reads record_count n r d _);
-      items = λ r e h. absurd (inbox.no_fault e Fault h refl);
+      items = λ r e h. absurd (inbox.no_fault e None h refl);
     }
 
 -- ---- one more
@@ -127,7 +126,7 @@ module _ {n : ℕ} {rs : List (List ℕ)} {sent : List Packet} (H : Holds n rs s
             ap (λ (i : ℕ). rows_of (record_in (put_in rs e rows) i)) (z ∙ sym first) ∙ done.rows_put
             ∙ rw H.size (read_rows n e rows valid fit)
 
-        old : (r : ℕ) (m : Envelope) → found sent r ≡ Found m → r ≢ first_free rs → rows_of (record_in (put_in rs e rows) r) ≡ rows_of (record_in rs r)
+        old : (r : ℕ) (m : Envelope) → found sent r ≡ Some m → r ≢ first_free rs → rows_of (record_in (put_in rs e rows) r) ≡ rows_of (record_in rs r)
         old r m h d = done.rows_same r (inbox.message_read rs r m (H.messages r ∙ h)).0 d
 
 -- ---- several

@@ -7,8 +7,6 @@ use mathlib.Core.List.{List, [], ◌∷◌}
 use lib.Dec.{ltb}
 use borrow.Author.Tests.{ltb-false}
 use Rattle.item.specs.Tests.{and_left, and_right}
-use Rattle.message.specs.declared.Reading.{Reading}
-use Rattle.message.specs.declared.Reading.TheVariants.{Found, Fault}
 use Rattle.store.specs.Change.{count_outgoing}
 use Rattle.store.proofs.Joined.{records_joined, joined_right}
 use Rattle.store.specs.Records.{joined}
@@ -29,6 +27,8 @@ use Rattle.operations.specs.Run.{call_of, calls}
 use Rattle.examples.specs.Said.{Said, said, answers}
 use Rattle.examples.proofs.Contents.{found, free_after, Holds, free_are, holds_more}
 use Rattle.examples.proofs.Trace.{After, out, stays, after_step, after_call, after_delivery, after_event, after, Trace, saying, trace}
+use Rattle.std.specs.Prelude.{None, Option, Some}
+use Rattle.message.specs.declared.Envelope.{Envelope}
 
 -- the result of an operation is what was followed
 record Same (n : ℕ) (a : After) (result : Result) : Type 0 where
@@ -72,10 +72,10 @@ module _ (n : ℕ) (table : List Node) (rs : List (List ℕ)) (sent : List Packe
   call_same decide k =
       rw H.size (by_both (Follows n) (ltb k n) (λ _. step_same k k (decide (node_at table k))) (λ _. stays_same (Refused NoNode)))
 
-  delivery_same : (m : Reading) (r : ℕ) → found sent r ≡ m → Follows n (after_delivery n table sent m r) (delivered m r table (joined rs) rs)
+  delivery_same : (m : Option Envelope) (r : ℕ) → found sent r ≡ m → Follows n (after_delivery n table sent m r) (delivered m r table (joined rs) rs)
   unfolding after_delivery delivered refuse
-  delivery_same Fault r h = stays_same (Refused NoMessage)
-  delivery_same (Found e) r h = rw (H.items r e h) (step_same e.addressee e.sender _)
+  delivery_same None r h = stays_same (Refused NoMessage)
+  delivery_same (Some e) r h = rw (H.items r e h) (step_same e.addressee e.sender _)
 
   event_same : (e : Event) → Follows n (after_event n table sent e) (on_sound e table (joined rs) rs)
   unfolding after_event on_sound

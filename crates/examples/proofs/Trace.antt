@@ -6,8 +6,6 @@ use mathlib.Core.List.{List, [], ◌∷◌}
 use lib.Dec.{ltb}
 use lib.ListN.{set}
 use Rattle.message.specs.declared.Outgoing.{Outgoing}
-use Rattle.message.specs.declared.Reading.{Reading}
-use Rattle.message.specs.declared.Reading.TheVariants.{Found, Fault}
 use Rattle.store.specs.Change.{count_outgoing}
 use Rattle.protocol.specs.Answer.{is_refused}
 use Rattle.protocol.specs.Deliver.{deliver_step}
@@ -25,6 +23,8 @@ use Rattle.protocol.specs.declared.Refusal.TheVariants.{Unsound, NoNode, NoRoom,
 use Rattle.protocol.specs.declared.Step.{Step}
 use Rattle.examples.specs.Said.{Said, said}
 use Rattle.examples.proofs.Contents.{found, beside, free_after, packets_put, all_fit}
+use Rattle.std.specs.Prelude.{None, Option, Some}
+use Rattle.message.specs.declared.Envelope.{Envelope}
 
 -- ---- one call
 
@@ -59,9 +59,9 @@ module _ (n : ℕ) (table : List Node) (sent : List Packet) where
   unfoldable pub after_call : (Node → Step) → ℕ → After
   after_call decide k = cond (ltb k n) (after_step k k (decide (node_at table k))) (stays (Refused NoNode))
 
-  unfoldable pub after_delivery : Reading → ℕ → After
-  after_delivery Fault r = stays (Refused NoMessage)
-  after_delivery (Found e) r = after_step e.addressee e.sender (deliver_step (node_at table e.addressee) e (beside sent r))
+  unfoldable pub after_delivery : Option Envelope → ℕ → After
+  after_delivery None r = stays (Refused NoMessage)
+  after_delivery (Some e) r = after_step e.addressee e.sender (deliver_step (node_at table e.addressee) e (beside sent r))
 
   -- a Drop is not followed
   unfoldable pub after_event : Event → After

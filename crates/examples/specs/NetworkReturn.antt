@@ -1,13 +1,12 @@
 -- Demand 3 is not empty: a run of the network in which a node returns. It is document 01's drill of sixteen lines: node 0 of
 -- three writes tag 65 and has it settled with node 1, crashes, starts, counts the tables of both peers, writes its item back
 -- and accepts it.
-use Rattle.std.specs.Prelude.{ℕ, List, [], ◌∷◌}
+use Rattle.std.specs.Prelude.{ℕ, List, [], ◌∷◌, None, Some}
 use Rattle.item.specs.declared.counters.Attempt.{Attempt}
 use Rattle.item.specs.declared.counters.Incarnation.{Incarnation}
 use Rattle.item.specs.declared.Item.{Item}
 use Rattle.message.specs.declared.Message.{Message}
 use Rattle.message.specs.declared.Message.TheVariants.{Store, Stored, Confirm, Confirmed, Fetch, Table}
-use Rattle.message.specs.declared.Reading.TheVariants.{Found, Fault}
 use Rattle.protocol.specs.Call.{Call}
 use Rattle.protocol.specs.Network.{Network, Run, fresh_network}
 use Rattle.protocol.specs.declared.Answer.{Answer}
@@ -26,7 +25,7 @@ attempt a = record { 0 = a }
 
 -- a call at the node that it names
 abbrev pub call : Event → Answer → Call
-call e a = record { event = e; answer = a; message = Fault }
+call e a = record { event = e; answer = a; message = None }
 
 -- the delivery of a message from one node to another, sent in the sender's incarnation i; r is the drill's record
 abbrev pub delivery : (r sender addressee i : ℕ) → Message → Answer → Call
@@ -34,7 +33,7 @@ delivery r sender addressee i m a =
     record {
       event = event.Deliver r;
       answer = a;
-      message = Found (record { sender = sender; addressee = addressee; incarnation = incarnation i; message = m });
+      message = Some (record { sender = sender; addressee = addressee; incarnation = incarnation i; message = m });
     }
 
 unfoldable pub drill_calls : List Call

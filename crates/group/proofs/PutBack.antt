@@ -8,8 +8,6 @@ use lib.Dec.{ltb}
 use lib.ListN.{length, get_or, set}
 use lib.Seq.{set-get_or}
 use Rattle.message.specs.declared.Outgoing.{Outgoing}
-use Rattle.message.specs.declared.Reading.{Reading}
-use Rattle.message.specs.declared.Reading.TheVariants.{Found, Fault}
 use Rattle.record.specs.Layout.{record_size, record_of, rows_of}
 use Rattle.store.specs.Change.{put_each, count_outgoing, drop_in}
 use Rattle.store.specs.Head.{group_size}
@@ -39,21 +37,23 @@ use Rattle.event.specs.declared.DropTarget.{DropTarget}
 use Rattle.event.specs.declared.Inspection.{Inspection}
 use Rattle.event.proofs.Laws.{first_table, first_taken, acted_refused, acted_taken, drop_node, drop_target_is}
 use Rattle.table.proofs.Given.{Gives}
+use Rattle.std.specs.Prelude.{None, Option, Some}
+use Rattle.message.specs.declared.Envelope.{Envelope}
 
 -- the node afterwards stands at its place; where the table has none nothing is put
 abbrev put_back : List Node → ℕ → Outcome → Result
 put_back table k o = record { answer = o.answer; table = set table k o.node; store = o.store }
 
 -- the node at its place is read, the event is carried out on it and the store, and the node is put back
-unfoldable at_place : Event → Bool → Inspection → Reading → List Node → List ℕ → Result
+unfoldable at_place : Event → Bool → Inspection → Option Envelope → List Node → List ℕ → Result
 at_place e sound seen reading table store = put_back table seen.place (one.perform_at e sound seen reading (node_at table seen.place) store)
 
 -- what `drop_record` says of a record: its answer and the store, whatever the node is
-abbrev pub Drops : ℕ → Bool → Inspection → Reading → List ℕ → Answer → List ℕ → Type 0
+abbrev pub Drops : ℕ → Bool → Inspection → Option Envelope → List ℕ → Answer → List ℕ → Type 0
 Drops number sound seen reading store r after = (node : Node) → (r ≡ (one.perform_at (event.Drop number) sound seen reading node store).answer) × (after ≡ (one.perform_at (event.Drop number) sound seen reading node store).store)
 
 -- what `act` says of a node: the answer and the node that it hands back, and the store
-abbrev pub Acts : Event → Bool → Inspection → Reading → Node → List ℕ → NodeResult → List ℕ → Type 0
+abbrev pub Acts : Event → Bool → Inspection → Option Envelope → Node → List ℕ → NodeResult → List ℕ → Type 0
 Acts e sound seen reading node store r after = (r ≡ handed_back (one.perform_at e sound seen reading node store)) × (after ≡ (one.perform_at e sound seen reading node store).store)
 
 -- whose event it is, by what is read of its record
@@ -105,15 +105,15 @@ module _ (table : List Node) (store : List ℕ) (k : ℕ) where
         ∙ (λ i. cond (ltb k (group_size (records_of store))) (carried_at k (decide (node_at table k)) i) (refused_at NoNode i))
 
 module _ (table : List Node) (store : List ℕ) (right : right_length store ≡ true) where
-  dropped_at : (m : Reading) (r : ℕ) → put_back table (addressee_of m) (one.dropped m (node_at table (addressee_of m)) store r) ≡ whole.dropped m r table store (records_of store)
+  dropped_at : (m : Option Envelope) (r : ℕ) → put_back table (addressee_of m) (one.dropped m (node_at table (addressee_of m)) store r) ≡ whole.dropped m r table store (records_of store)
   unfolding one.dropped whole.dropped addressee_of
-  dropped_at Fault r = refused_at table store 0 NoMessage
-  dropped_at (Found e) r = λ i. record { answer = answer.Ok; table = same_node table e.addressee i; store = changed table store e.addressee right (λ rs. drop_in rs e.addressee r) i }
+  dropped_at None r = refused_at table store 0 NoMessage
+  dropped_at (Some e) r = λ i. record { answer = answer.Ok; table = same_node table e.addressee i; store = changed table store e.addressee right (λ rs. drop_in rs e.addressee r) i }
 
-  delivered_at : (m : Reading) (r : ℕ) → put_back table (addressee_of m) (one.delivered m (node_at table (addressee_of m)) store (free_count (records_of store)) r) ≡ whole.delivered m r table store (records_of store)
+  delivered_at : (m : Option Envelope) (r : ℕ) → put_back table (addressee_of m) (one.delivered m (node_at table (addressee_of m)) store (free_count (records_of store)) r) ≡ whole.delivered m r table store (records_of store)
   unfolding one.delivered whole.delivered addressee_of right_length
-  delivered_at Fault r = refused_at table store 0 NoMessage
-  delivered_at (Found e) r =
+  delivered_at None r = refused_at table store 0 NoMessage
+  delivered_at (Some e) r =
       let node = node_at table e.addressee in
       carried_at table store e.addressee right e.sender (deliver_step node e (rows_of (record_of store r)))
       ∙ ap (λ (l : List ℕ). whole.carried_out table store (records_of store) e.addressee e.sender (deliver_step node e (rows_of l))) (sym (record_in_lem store (eqb-true (length store) (record_count * record_size) right) r))
@@ -128,11 +128,11 @@ module _ (table : List Node) (store : List ℕ) (right : right_length store ≡ 
   sound_at (event.Retry k) = step_at table store k right retry_step
   sound_at (event.Crash k) = step_at table store k right crash_step
   sound_at (event.Start k) = step_at table store k right start_step
-  sound_at (event.Drop r) = dropped_at (message_at store r) r ∙ ap (λ (m : Reading). whole.dropped m r table store (records_of store)) (found_at r)
-  sound_at (event.Deliver r) = delivered_at (message_at store r) r ∙ ap (λ (m : Reading). whole.delivered m r table store (records_of store)) (found_at r)
+  sound_at (event.Drop r) = dropped_at (message_at store r) r ∙ ap (λ (m : Option Envelope). whole.dropped m r table store (records_of store)) (found_at r)
+  sound_at (event.Deliver r) = delivered_at (message_at store r) r ∙ ap (λ (m : Option Envelope). whole.delivered m r table store (records_of store)) (found_at r)
 
 module _ (e : Event) (table : List Node) (store : List ℕ) where
-  abbrev reading : Reading
+  abbrev reading : Option Envelope
   reading = reading_of e store
 
   abbrev place : ℕ
@@ -188,7 +188,7 @@ module _ (e : Event) (table : List Node) (store : List ℕ) where
   performed = performed_at (right_length store) (sound_records (records_of store)) refl refl
 
   -- the calls of `group::perform` one after the other, each with what it ensures
-  module _ (m : Reading) (seen : Inspection) (sound : Bool) (eᵣ : m ≡ reading) (e₀ : seen ≡ inspection_of e store m) (e₁ : sound ≡ sound_table seen.n table) where
+  module _ (m : Option Envelope) (seen : Inspection) (sound : Bool) (eᵣ : m ≡ reading) (e₀ : seen ≡ inspection_of e store m) (e₁ : sound ≡ sound_table seen.n table) where
     performed_seen : at_place e sound seen m table store ≡ whole.perform e table store
     performed_seen =
         let l : seen ≡ inspection_of e store reading = e₀ ∙ ap (inspection_of e store) eᵣ in

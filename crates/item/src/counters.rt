@@ -3,19 +3,19 @@ ghost use Rattle.std.specs.Prelude.{◌≡◌};
 ghost use Rattle.item.specs.Counter.{index_at_largest, next_index, same_incarnation, incarnation_at_largest, next_incarnation, same_attempt, attempt_at_largest, next_attempt, earlier};
 
 // The number of a write. An index, an incarnation and an attempt are separate counters.
-#[derive(Clone, Copy)]
+#[derive(Clone, Copy, PartialEq, Eq, PartialOrd, Ord)]
 pub struct Index(pub u64);
 
 // How often a node has started, counted from 1.
-#[derive(Clone, Copy)]
+#[derive(Clone, Copy, PartialEq, Eq, PartialOrd, Ord)]
 pub struct Incarnation(pub u32);
 
 // How often a node has sent a write in its present incarnation.
-#[derive(Clone, Copy)]
+#[derive(Clone, Copy, PartialEq, Eq, PartialOrd, Ord)]
 pub struct Attempt(pub u32);
 
 impl Index {
-    pub const LARGEST: u64 = 18446744073709551615;
+    pub const LARGEST: u64 = u64::MAX;
 
     // Whether no index is above this one.
     #[tactic(auto, unfolding(crate::specs::Counter::index_at_largest))]
@@ -30,22 +30,19 @@ impl Index {
     pub fn next(self) -> Index
         ensures { result ≡ next_index self }
     {
-        if self.0 != Index::LARGEST {
-            return Index(self.0 + 1);
-        }
-        self
+        Index(self.0.saturating_add(1))
     }
 }
 
 impl Incarnation {
-    pub const LARGEST: u32 = 4294967295;
+    pub const LARGEST: u32 = u32::MAX;
 
     // Whether the two are equal.
     #[tactic(auto, unfolding(crate::specs::Counter::same_incarnation))]
     pub fn same(self, incarnation: Incarnation) -> bool
         ensures { result ≡ same_incarnation self incarnation }
     {
-        self.0 == incarnation.0
+        self == incarnation
     }
 
     // Whether no incarnation is above this one.
@@ -61,22 +58,19 @@ impl Incarnation {
     pub fn next(self) -> Incarnation
         ensures { result ≡ next_incarnation self }
     {
-        if self.0 != Incarnation::LARGEST {
-            return Incarnation(self.0 + 1);
-        }
-        self
+        Incarnation(self.0.saturating_add(1))
     }
 }
 
 impl Attempt {
-    pub const LARGEST: u32 = 4294967295;
+    pub const LARGEST: u32 = u32::MAX;
 
     // Whether the two are equal.
     #[tactic(auto, unfolding(crate::specs::Counter::same_attempt))]
     pub fn same(self, attempt: Attempt) -> bool
         ensures { result ≡ same_attempt self attempt }
     {
-        self.0 == attempt.0
+        self == attempt
     }
 
     // Whether no attempt is above this one.
@@ -92,10 +86,7 @@ impl Attempt {
     pub fn next(self) -> Attempt
         ensures { result ≡ next_attempt self }
     {
-        if self.0 != Attempt::LARGEST {
-            return Attempt(self.0 + 1);
-        }
-        self
+        Attempt(self.0.saturating_add(1))
     }
 }
 
@@ -109,11 +100,5 @@ pub fn counters_earlier(
 ) -> bool
     ensures { result ≡ earlier incarnation attempt than_incarnation than_attempt }
 {
-    if incarnation.0 < than_incarnation.0 {
-        return true;
-    }
-    if than_incarnation.0 < incarnation.0 {
-        return false;
-    }
-    attempt.0 < than_attempt.0
+    (incarnation, attempt) < (than_incarnation, than_attempt)
 }

@@ -5,6 +5,7 @@
 mod counters;
 
 ghost use Rattle.std.specs.Prelude.{◌≡◌};
+ghost use Rattle.item.specs.Counter.{same_attempt, same_incarnation};
 ghost use Rattle.item.specs.Item.{tags_agree, ranks_below, same_item, zero_item};
 ghost use Rattle.item.specs.Maxima.{valid_size};
 ghost use Rattle.item.specs.Row.{same_row, zero_row};
@@ -19,21 +20,15 @@ pub const MAX_NODES: usize = 15;
 pub fn valid_size(n: usize) -> bool
     ensures { result ≡ valid_size n }
 {
-    if n < 3 {
-        return false;
-    }
-    if MAX_NODES < n {
-        return false;
-    }
-    n % 2 == 1
+    (3..=MAX_NODES).contains(&n) && n % 2 == 1
 }
 
 // What a write stores beside its index: the caller's digest, never computed with.
-#[derive(Clone, Copy)]
+#[derive(Clone, Copy, PartialEq, Eq)]
 pub struct Tag(pub u64);
 
 // An item (a term of document 01): an index with a tag.
-#[derive(Clone, Copy)]
+#[derive(Clone, Copy, PartialEq, Eq)]
 pub struct Item {
     pub index: Index,
     pub tag: Tag,
@@ -41,7 +36,7 @@ pub struct Item {
 
 // A row (a term of document 01): an item with the writer's incarnation and attempt that last stored it, and whether
 // its greatest index has come with two tags.
-#[derive(Clone, Copy)]
+#[derive(Clone, Copy, PartialEq, Eq)]
 pub struct Row {
     pub item: Item,
     pub incarnation: Incarnation,
@@ -58,7 +53,7 @@ impl Tag {
     fn agrees(self, tag: Tag) -> bool
         ensures { result ≡ tags_agree self tag }
     {
-        self.0 == tag.0
+        self == tag
     }
 }
 
@@ -78,18 +73,15 @@ impl Item {
     pub fn ranks_below(self, item: Item) -> bool
         ensures { result ≡ ranks_below self item }
     {
-        self.index.0 < item.index.0
+        self.index < item.index
     }
 
     // Whether the two items are equal, tags included.
-    #[tactic(auto, unfolding(crate::specs::Item::same_item))]
+    #[tactic(auto, unfolding(crate::specs::Item::same_item, crate::specs::Item::tags_agree))]
     pub fn same(self, item: Item) -> bool
         ensures { result ≡ same_item self item }
     {
-        if self.index.0 != item.index.0 {
-            return false;
-        }
-        self.tag.agrees(item.tag)
+        self == item
     }
 }
 
@@ -107,19 +99,19 @@ impl Row {
     }
 
     // Whether the two rows are equal in every field.
-    #[tactic(auto, unfolding(crate::specs::Row::same_row))]
+    #[tactic(auto, unfolding(crate::specs::Row::same_row, crate::specs::Item::same_item, crate::specs::Item::tags_agree, crate::specs::Counter::same_incarnation, crate::specs::Counter::same_attempt))]
     pub fn same(self, row: Row) -> bool
         ensures { result ≡ same_row self row }
     {
-        if !self.item.same(row.item) {
-            return false;
-        }
-        if !self.incarnation.same(row.incarnation) {
-            return false;
-        }
-        if !self.attempt.same(row.attempt) {
-            return false;
-        }
-        self.marked == row.marked
+        self == row
     }
 }
+
+// What the derived `==` compares: the number of a counter, index and tag of an item, every field of a row.
+#[tactic(auto, unfolding(crate::specs::Row::same_row, crate::specs::Item::same_item, crate::specs::Item::tags_agree, crate::specs::Counter::same_incarnation, crate::specs::Counter::same_attempt))]
+pub fn derived_equality()
+    ensures incarnations { (i j : Incarnation) → ⟦<Incarnation as PartialEq>⟧.eq i j ≡ same_incarnation i j }
+    ensures attempts { (a b : Attempt) → ⟦<Attempt as PartialEq>⟧.eq a b ≡ same_attempt a b }
+    ensures items { (i j : Item) → ⟦<Item as PartialEq>⟧.eq i j ≡ same_item i j }
+    ensures rows { (r s : Row) → ⟦<Row as PartialEq>⟧.eq r s ≡ same_row r s }
+{}

@@ -15,8 +15,6 @@ use Rattle.item.specs.Maxima.{max_nodes, valid_size}
 use Rattle.item.specs.Tests.{by_cond}
 use Rattle.record.specs.Layout.{rows_of}
 use Rattle.message.specs.declared.Envelope.{Envelope}
-use Rattle.message.specs.declared.Reading.{Reading}
-use Rattle.message.specs.declared.Reading.TheVariants.{Found, Fault}
 use Rattle.store.specs.Head.{group_size}
 use Rattle.store.specs.Records.{right_length, records_of, record_in}
 use Rattle.store.specs.Sound.{message_in}
@@ -40,6 +38,7 @@ use Rattle.laws_enabled.specs.Acting.{acted, may_write, may_retry, may_crash, ma
 use Rattle.laws_enabled.specs.Laws.{SetUpActs, WriteActs, RetryActs, CrashActs, StartActs, DropActs, DeliverActs}
 use Rattle.laws_enabled.proofs.Calls.{write_node, retry_node, crash_node, start_node}
 use Rattle.laws_enabled.proofs.Deliveries.{message_node}
+use Rattle.std.specs.Prelude.{None, Option, Some}
 
 pub set_up_acts : SetUpActs
 unfolding SetUpActs set_up refuse acted
@@ -69,14 +68,14 @@ module _ (n : ℕ) (table : List Node) (store : List ℕ) (G : SoundGroup n tabl
 
   -- ---- a record on an inbox
 
-  found_on : (r : ℕ) (e : Envelope) → message_in (records_of store) r ≡ Found e → on_inbox n r (records_of store) ≡ true
+  found_on : (r : ℕ) (e : Envelope) → message_in (records_of store) r ≡ Some e → on_inbox n r (records_of store) ≡ true
   unfolding on_inbox
   found_on r e h =
       let w = message_inbox (records_of store) (group_records n table store G) r e h in
       let low : e.addressee < n = omega (arith, w.0, G.size) in
       lt-ltb 0 (times_on r n (inbox_list (records_of store)) 0) (omega (arith, w.1, stands_on r n (inbox_list (records_of store)) 0 e.addressee (omega arith) (omega arith)))
 
-  fault_off : (r : ℕ) → message_in (records_of store) r ≡ Fault → on_inbox n r (records_of store) ≡ false
+  fault_off : (r : ℕ) → message_in (records_of store) r ≡ None → on_inbox n r (records_of store) ≡ false
   unfolding on_inbox
   fault_off r h =
       by_order 1 (times_on r n (inbox_list (records_of store)) 0)
@@ -87,18 +86,18 @@ module _ (n : ℕ) (table : List Node) (store : List ℕ) (G : SoundGroup n tabl
       absurd (no_fault m.envelope _ m.found h))
       (λ none. le-ltb 0 (times_on r n (inbox_list (records_of store)) 0) (omega arith))
 
-  drops : (r : ℕ) (m : Reading) → message_in (records_of store) r ≡ m
+  drops : (r : ℕ) (m : Option Envelope) → message_in (records_of store) r ≡ m
       → acted (dropped m r table store (records_of store)) ≡ on_inbox n r (records_of store)
   unfolding dropped refuse acted
-  drops r Fault h = sym (fault_off r h)
-  drops r (Found e) h = sym (found_on r e h)
+  drops r None h = sym (fault_off r h)
+  drops r (Some e) h = sym (found_on r e h)
 
-  delivers : (r : ℕ) (m : Reading) → message_in (records_of store) r ≡ m
+  delivers : (r : ℕ) (m : Option Envelope) → message_in (records_of store) r ≡ m
       → acted (delivered m r table store (records_of store))
       ≡ (on_inbox n r (records_of store) && is_taken n m (rows_of (record_in (records_of store) r)) table (records_of store))
   unfolding delivered refuse acted is_taken deliver_step
-  delivers r Fault h = rw (fault_off r h)
-  delivers r (Found e) h =
+  delivers r None h = rw (fault_off r h)
+  delivers r (Some e) h =
       rw (found_on r e h)
       (message_node table store (records_of store) n e.addressee (addressed n table store G r e h).addressee_below most
       e.sender (addressed n table store G r e h).sender_below (node_at table e.addressee) e.incarnation e.message

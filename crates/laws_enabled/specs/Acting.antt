@@ -1,6 +1,6 @@
 -- When each operation acts (document 01, Operations): every refusal that it lists, turned round, in a group of n. The table and
 -- the store are sound; `rs` are the store's records.
-use Rattle.std.specs.Prelude.{ℕ, ◌-◌, Bool, false, cond, not, ◌&&◌, ◌||◌, List, leb, ltb}
+use Rattle.std.specs.Prelude.{ℕ, ◌-◌, Bool, false, cond, not, ◌&&◌, ◌||◌, List, leb, ltb, None, Option, Some}
 use Rattle.store_laws.specs.Lists.{inbox_list, times_on}
 use Rattle.item.specs.Counter.{earlier, attempt_at_largest, incarnation_at_largest}
 use Rattle.item.specs.Item.{ranks_below, same_item}
@@ -11,8 +11,6 @@ use Rattle.item.specs.declared.Row.{Row}
 use Rattle.record.specs.Layout.{rows_of}
 use Rattle.message.specs.declared.Message.{Message}
 use Rattle.message.specs.declared.Message.TheVariants as message
-use Rattle.message.specs.declared.Reading.{Reading}
-use Rattle.message.specs.declared.Reading.TheVariants.{Found, Fault}
 use Rattle.store.specs.Records.{record_in}
 use Rattle.store.specs.Sound.{free_count, message_in}
 use Rattle.protocol.specs.Fetching.{has_conflict, with_table}
@@ -24,6 +22,7 @@ use Rattle.protocol.specs.Storing.{own_write, is_counted, stored_under, asked_un
 use Rattle.protocol.specs.Table.{node_at}
 use Rattle.protocol.specs.Write.{write_at_largest}
 use Rattle.protocol.specs.declared.Node.{Node}
+use Rattle.message.specs.declared.Envelope.{Envelope}
 
 -- a call acts if it is not refused
 unfoldable pub acted : Result → Bool
@@ -98,9 +97,9 @@ sending n (message.Table other) node sender incarnation items =
     cond (at_most_half counted) 0 (cond (has_conflict counted) 0 (n - 1))
 
 -- "then 7: too few free records for what it would send"
-unfoldable pub is_taken : ℕ → Reading → List Item → List Node → List (List ℕ) → Bool
-is_taken n Fault items table rs = false
-is_taken n (Found e) items table rs =
+unfoldable pub is_taken : ℕ → Option Envelope → List Item → List Node → List (List ℕ) → Bool
+is_taken n None items table rs = false
+is_taken n (Some e) items table rs =
     let node = node_at table e.addressee in
     takes e.message node e.sender e.incarnation &&
     is_room_for (sending n e.message node e.sender e.incarnation items) rs

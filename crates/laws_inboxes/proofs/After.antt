@@ -16,8 +16,6 @@ use Rattle.item.specs.declared.Item.{Item}
 use Rattle.record.specs.Layout.{rows_of, held_rows}
 use Rattle.message.specs.declared.Outgoing.{Outgoing}
 use Rattle.record.specs.Record.{record_bytes}
-use Rattle.message.specs.declared.Reading.{Reading}
-use Rattle.message.specs.declared.Reading.TheVariants.{Found, Fault}
 use Rattle.store.specs.Change.{count_outgoing, drop_in, empty_records}
 use Rattle.store.specs.Head.{group_size}
 use Rattle.store.proofs.Joined.{records_count, records_joined}
@@ -45,6 +43,8 @@ use Rattle.laws_inboxes.specs.Inbox.{entries_in, inbox}
 use Rattle.laws_inboxes.specs.Laws.{SetUpEmpties, HoldsAfter, HoldsAfterCall, RecordsCounted}
 use Rattle.laws_inboxes.specs.Sent.{sent_for, sent_by_event, entries_to, kept, freed}
 use Rattle.laws_inboxes.proofs.Entries.{EachPut, AllRead, each_put, drop_inbox, drop_free}
+use Rattle.std.specs.Prelude.{None, Option, Some}
+use Rattle.message.specs.declared.Envelope.{Envelope}
 
 module _ (n : ℕ) (table : List Node) (store : List ℕ) (G : SoundGroup n table store) where
   -- ---- a decision carried out
@@ -85,12 +85,12 @@ module _ (n : ℕ) (table : List Node) (store : List ℕ) (G : SoundGroup n tabl
       (λ e. carried k k (f (node_at table k)) (d (omega (arith, ltb-true k (group_size (records_of store)) e, G.size))))
       (λ _ z. absurd (false≢true z))
 
-  delivers : (r : ℕ) (m : Reading) → message_in (records_of store) r ≡ m → acted (delivered m r table store (records_of store)) ≡ true
+  delivers : (r : ℕ) (m : Option Envelope) → message_in (records_of store) r ≡ m → acted (delivered m r table store (records_of store)) ≡ true
       → EachPut (records_of store) (records_of (delivered m r table store (records_of store)).store)
       (sent_for m (rows_of (record_in (records_of store) r)) table).messages (sent_for m (rows_of (record_in (records_of store) r)) table).rows
   unfolding delivered refuse acted sent_for
-  delivers r Fault h z = absurd (false≢true z)
-  delivers r (Found e) h z = carried e.addressee e.sender _ (deliver_decided n table store G r e h) z
+  delivers r None h z = absurd (false≢true z)
+  delivers r (Some e) h z = carried e.addressee e.sender _ (deliver_decided n table store G r e h) z
 
   -- ---- in a group of n
 
@@ -110,11 +110,11 @@ module _ (n : ℕ) (table : List Node) (store : List ℕ) (G : SoundGroup n tabl
         free = drop_free (records_of store) g k low r on;
       }
 
-  drops : (r : ℕ) (m : Reading) → message_in (records_of store) r ≡ m → acted (dropped m r table store (records_of store)) ≡ true
+  drops : (r : ℕ) (m : Option Envelope) → message_in (records_of store) r ≡ m → acted (dropped m r table store (records_of store)) ≡ true
       → HoldsAfter n (event.Drop r) table (records_of store) (records_of (dropped m r table store (records_of store)).store)
   unfolding dropped refuse acted
-  drops r Fault h z = absurd (false≢true z)
-  drops r (Found e) h z =
+  drops r None h z = absurd (false≢true z)
+  drops r (Some e) h z =
       let w = message_inbox (records_of store) (group_records n table store G) r e h in
       subst (HoldsAfter n (event.Drop r) table (records_of store))
       (sym (store_after n store _ (store_of n table store G) (drop_local (records_of store) e.addressee r (message_read (records_of store) r e h).0)).1)

@@ -1,16 +1,16 @@
 -- An inbox as the list of its messages, in the order of its chain.
-use Rattle.std.specs.Prelude.{ℕ, List, map}
+use Rattle.std.specs.Prelude.{ℕ, List, map, Option}
 use Rattle.store_laws.specs.Lists.{inbox_list}
 use Rattle.item.specs.declared.Item.{Item}
 use Rattle.record.specs.Layout.{rows_of}
-use Rattle.message.specs.declared.Reading.{Reading}
 use Rattle.store.specs.Records.{record_in}
 use Rattle.store.specs.Sound.{message_in}
+use Rattle.message.specs.declared.Envelope.{Envelope}
 
 -- an entry of an inbox: its record, the message in it, and the rows beside that ("Only Table has rows")
 pub record Entry : Type 0 where
   pub at : ℕ
-  pub message : Reading
+  pub message : Option Envelope
   pub rows : List Item
 
 unfoldable pub entry_in : List (List ℕ) → ℕ → Entry

@@ -1,13 +1,11 @@
 -- What a call that acts sends, and the entries that this makes. "Every message sent to several nodes goes out in that order" (by
 -- rising node number), and "Records are taken from the head of the free chain and put at the inbox's end".
-use Rattle.std.specs.Prelude.{ℕ, cond, List, [], ◌∷◌, eqb, get_or, drop}
+use Rattle.std.specs.Prelude.{ℕ, cond, List, [], ◌∷◌, eqb, get_or, drop, None, Option, Some}
 use Rattle.store_laws.specs.Lists.{inbox_list, without}
 use Rattle.item.specs.declared.Item.{Item}
 use Rattle.record.specs.Layout.{rows_of, held_rows}
 use Rattle.message.specs.declared.Envelope.{Envelope}
 use Rattle.message.specs.declared.Outgoing.{Outgoing}
-use Rattle.message.specs.declared.Reading.{Reading}
-use Rattle.message.specs.declared.Reading.TheVariants.{Found, Fault}
 use Rattle.store.specs.Records.{record_in}
 use Rattle.store.specs.Sound.{message_in}
 use Rattle.protocol.specs.Deliver.{deliver_step}
@@ -34,9 +32,9 @@ abbrev pub sent_on : Step → ℕ → Sent
 sent_on step back = record { messages = outgoing step.node step.sends back; rows = row_items step.node }
 
 -- on the delivery of a message
-unfoldable pub sent_for : Reading → List Item → List Node → Sent
-sent_for Fault items table = nothing_sent
-sent_for (Found e) items table = sent_on (deliver_step (node_at table e.addressee) e items) e.sender
+unfoldable pub sent_for : Option Envelope → List Item → List Node → Sent
+sent_for None items table = nothing_sent
+sent_for (Some e) items table = sent_on (deliver_step (node_at table e.addressee) e items) e.sender
 
 -- by an event that acts
 unfoldable pub sent_by_event : Event → List Node → List (List ℕ) → Sent
@@ -49,7 +47,7 @@ sent_by_event (event.Deliver r) table rs = sent_for (message_in rs r) (rows_of (
 
 -- the entry of a message in record r: a Table has "n of them, then zeros"
 abbrev pub entry_of : ℕ → List Item → Envelope → ℕ → Entry
-entry_of n rows e r = record { at = r; message = Found e; rows = held_rows e.message n rows }
+entry_of n rows e r = record { at = r; message = Some e; rows = held_rows e.message n rows }
 
 -- the entries that these messages make in node k's inbox, each in the first record that is then free
 unfoldable pub entries_to : ℕ → ℕ → List Item → List Outgoing → List ℕ → List Entry

@@ -7,7 +7,6 @@ use mathlib.Core.Bool.{true, not}
 use mathlib.Core.List.{List}
 use borrow.Author.Tests.{lt-ltb, ne_eqb}
 use Rattle.item.specs.Tests.{and_both}
-use Rattle.message.specs.declared.Reading.TheVariants.{Found}
 use Rattle.store.specs.Change.{count_outgoing}
 use Rattle.store.specs.Records.{records_of}
 use Rattle.store.specs.Sound.{free_count, message_in}
@@ -32,6 +31,7 @@ use Rattle.laws_liveness.specs.Laws.{Peers, HasBegun, WriteGetsThrough, BeginsAn
 use Rattle.laws_liveness.proofs.Delivering.{Acted, out_has, carried_acted, replaced, left_alone}
 use Rattle.laws_liveness.proofs.Lists.{each_map, each_two, both_of}
 use Rattle.laws_liveness.proofs.Through.{write_gets_through}
+use Rattle.std.specs.Prelude.{Some}
 
 module _ (n x : ℕ) (low : x < n) (before : Result) (G : LeavesSound n before) (writer : Node) (D : Decided n before.table x x (send_store writer))
     (storing : writer.phase ≡ Up Storing) (none : writer.counted ≡ no_peers)
@@ -65,13 +65,13 @@ module _ (n x : ℕ) (low : x < n) (before : Result) (G : LeavesSound n before) 
   q_is = left_alone n before begun G x low writer acted.table_is
 
   store_sent : (q : ℕ) → q < n → q ≢ x
-      → (r : ℕ) × (message_in (records_of begun.store) r ≡ Found (store_to (node_at begun.table x) q (node_at begun.table q).incarnation))
+      → (r : ℕ) × (message_in (records_of begun.store) r ≡ Some (store_to (node_at begun.table x) q (node_at begun.table q).incarnation))
   unfolding send_store ok outgoing_to goes_to message_to
   store_sent q h d =
       let s = acted.mail.new (outgoing_to writer (send_store writer).sends x q)
       (out_has writer (send_store writer).sends x q (omega (arith, size_fits n (group_valid n before.table before.store G))))
       (and_both (lt-ltb q writer.n (omega (arith, size))) (ap not (ne_eqb q writer.number (λ z. d (z ∙ number))))) in
-      (s.0, s.1 ∙ ap (λ (v : Node). Found (store_to v q (node_at begun.table q).incarnation)) (sym x_is))
+      (s.0, s.1 ∙ ap (λ (v : Node). Some (store_to v q (node_at begun.table q).incarnation)) (sym x_is))
 
   -- f peers that are Up and whose rows take the item
   module _ (peers : List ℕ) (P : Peers n x peers) (up : Each (λ q. is_up (node_at before.table q).phase ≡ true) peers)
@@ -80,7 +80,7 @@ module _ (n x : ℕ) (low : x < n) (before : Result) (G : LeavesSound n before) 
     not_x = each_map (λ q. (q < n) × (q ≢ x)) (λ q. q ≢ x) (λ q z. z.1) peers P.others
 
     has_begun : (records : List ℕ)
-        → Both (λ q r. message_in (records_of begun.store) r ≡ Found (store_to (node_at begun.table x) q (node_at begun.table q).incarnation)) peers records
+        → Both (λ q r. message_in (records_of begun.store) r ≡ Some (store_to (node_at begun.table x) q (node_at begun.table q).incarnation)) peers records
         → HasBegun n x peers records begun
     has_begun records stores =
         record {
@@ -106,9 +106,9 @@ module _ (n x : ℕ) (low : x < n) (before : Result) (G : LeavesSound n before) 
     pub begins : BeginsAndGetsThrough x peers (own_item writer) begun
     unfolding WriteGetsThrough send_store ok
     begins =
-        let s = both_of (λ q r. message_in (records_of begun.store) r ≡ Found (store_to (node_at begun.table x) q (node_at begun.table q).incarnation)) peers
+        let s = both_of (λ q r. message_in (records_of begun.store) r ≡ Some (store_to (node_at begun.table x) q (node_at begun.table q).incarnation)) peers
         (each_map (λ q. (q < n) × (q ≢ x))
-        (λ q. (r : ℕ) × (message_in (records_of begun.store) r ≡ Found (store_to (node_at begun.table x) q (node_at begun.table q).incarnation)))
+        (λ q. (r : ℕ) × (message_in (records_of begun.store) r ≡ Some (store_to (node_at begun.table x) q (node_at begun.table q).incarnation)))
         (λ q z. store_sent q z.0 z.1) peers P.others) in
         record {
           is_ok = acted.answer_is;

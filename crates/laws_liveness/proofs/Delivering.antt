@@ -13,8 +13,6 @@ use Rattle.store_laws.proofs.Sound.{store_sound}
 use Rattle.item.specs.Maxima.{max_nodes}
 use Rattle.record.specs.Layout.{rows_of}
 use Rattle.message.specs.declared.Envelope.{Envelope}
-use Rattle.message.specs.declared.Reading.{Reading}
-use Rattle.message.specs.declared.Reading.TheVariants.{Found}
 use Rattle.store.specs.Change.{put_each, count_outgoing}
 use Rattle.store.specs.Records.{records_of, record_in, joined}
 use Rattle.store.specs.Sound.{free_count, message_in}
@@ -35,6 +33,7 @@ use Rattle.laws_runs.specs.Laws.{LeavesSound}
 use Rattle.laws_runs.proofs.Keeps.{Decided, group_table, delivered_sound, group_store, all_for_group, records_are, deliver_decided, performed_is, performs}
 use Rattle.laws_liveness.specs.Delivery.{deliver}
 use Rattle.laws_liveness.proofs.Puts.{Puts, puts}
+use Rattle.std.specs.Prelude.{Option, Some}
 
 -- a place for each node number
 from_has : (node : Node) (s : Sends) (back k count to : ℕ) → to < count → Memᴰ (outgoing_to node s back (k + to)) (outgoing_from node s back k count)
@@ -82,13 +81,13 @@ module _ (n : ℕ) (before : Result) (G : LeavesSound n before) (k back : ℕ) (
       }
 
 -- the delivery of the message in record r
-module _ (n : ℕ) (before : Result) (G : LeavesSound n before) (r : ℕ) (e : Envelope) (h : message_in (records_of before.store) r ≡ Found e) where
+module _ (n : ℕ) (before : Result) (G : LeavesSound n before) (r : ℕ) (e : Envelope) (h : message_in (records_of before.store) r ≡ Some e) where
   deliver_is : deliver before r ≡ carried_out before.table before.store (records_of before.store) e.addressee e.sender
       (deliver_step (node_at before.table e.addressee) e (rows_of (record_in (records_of before.store) r)))
   unfolding deliver on_sound delivered
   deliver_is =
       performed_is n before.table before.store G (event.Deliver r)
-      ∙ ap (λ (m : Reading). delivered m r before.table before.store (records_of before.store)) h
+      ∙ ap (λ (m : Option Envelope). delivered m r before.table before.store (records_of before.store)) h
 
   pub delivery_acted : is_refused (deliver_step (node_at before.table e.addressee) e (rows_of (record_in (records_of before.store) r))).answer ≡ false
       → count_outgoing (outgoing (deliver_step (node_at before.table e.addressee) e (rows_of (record_in (records_of before.store) r))).node

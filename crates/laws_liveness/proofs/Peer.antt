@@ -15,7 +15,6 @@ use Rattle.item.specs.declared.Item.{Item}
 use Rattle.record.specs.Layout.{rows_of}
 use Rattle.message.specs.declared.Envelope.{Envelope}
 use Rattle.message.specs.declared.Message.{Message}
-use Rattle.message.specs.declared.Reading.TheVariants.{Found}
 use Rattle.store.specs.Change.{count_outgoing}
 use Rattle.store.specs.Records.{records_of, record_in}
 use Rattle.store.specs.Sound.{free_count, message_in}
@@ -38,6 +37,7 @@ use Rattle.laws_liveness.specs.Delivery.{Delivery, deliver, Deliver, oks, envelo
 use Rattle.laws_liveness.specs.Each.{Each, Both, Distinct}
 use Rattle.laws_liveness.proofs.Delivering.{Acted, out_has, delivery_as, sound_as, replaced, left_alone}
 use Rattle.laws_liveness.proofs.Lists.{each_map, each_two, both_map}
+use Rattle.std.specs.Prelude.{Some}
 
 -- what node q makes of a message m of node x under incarnation i: it answers m' under its own, and is then as Q says
 pub record Answering (x q : ℕ) (i : Incarnation) (m m' : Message) (under : Incarnation) (Q : Node → Type 0) (node : Node) (items : List Item) : Type 0 where
@@ -53,13 +53,13 @@ module _ (n x : ℕ) (x_low : x < n) (i : Incarnation) (m m' : ℕ → Message) 
     is_ok : (deliver before r).answer ≡ answer.Ok
     group : LeavesSound n (deliver before r)
     record_of : ℕ
-    reply : message_in (records_of (deliver before r).store) record_of ≡ Found (envelope_of q x (under q) (m' q))
+    reply : message_in (records_of (deliver before r).store) record_of ≡ Some (envelope_of q x (under q) (m' q))
     held : Q q (node_at (deliver before r).table q)
     same : (k : ℕ) → k ≢ q → node_at (deliver before r).table k ≡ node_at before.table k
-    old : (s : ℕ) (e : Envelope) → message_in (records_of before.store) s ≡ Found e → message_in (records_of (deliver before r).store) s ≡ Found e
+    old : (s : ℕ) (e : Envelope) → message_in (records_of before.store) s ≡ Some e → message_in (records_of (deliver before r).store) s ≡ Some e
     fewer : suc (free_count (records_of (deliver before r).store)) ≡ free_count (records_of before.store)
 
-  one : (q r : ℕ) (before : Result) → LeavesSound n before → message_in (records_of before.store) r ≡ Found (envelope_of x q i (m q)) → q < n
+  one : (q r : ℕ) (before : Result) → LeavesSound n before → message_in (records_of before.store) r ≡ Some (envelope_of x q i (m q)) → q < n
       → P q (node_at before.table q) → 1 ≤ free_count (records_of before.store) → One q r before
   unfolding ok outgoing_to goes_to message_to
   one q r before G h low p room =
@@ -67,7 +67,7 @@ module _ (n x : ℕ) (x_low : x < n) (i : Incarnation) (m m' : ℕ → Message) 
         is_ok = A.answer_is;
         group = A.group;
         record_of = w.0;
-        reply = w.1 ∙ (λ j. Found (envelope_of (number j) x (B.under_is j) (m' q)));
+        reply = w.1 ∙ (λ j. Some (envelope_of (number j) x (B.under_is j) (m' q)));
         held = subst (Q q) (sym (replaced n before (deliver before r) G q low B.after A.table_is)) B.holds;
         same = left_alone n before (deliver before r) G q low B.after A.table_is;
         old = A.mail.old;
@@ -98,7 +98,7 @@ module _ (n x : ℕ) (x_low : x < n) (i : Incarnation) (m m' : ℕ → Message) 
       A : Acted n before q x (ok B.after (sends.Back (m' q))) (deliver before r)
       A = delivery_as n before G r (envelope_of x q i (m q)) h (ok B.after (sends.Back (m' q))) B.step_is refl (omega (arith, sent))
 
-      w : (s : ℕ) × (message_in (records_of (deliver before r).store) s ≡ Found (outgoing_to B.after (sends.Back (m' q)) x x).envelope)
+      w : (s : ℕ) × (message_in (records_of (deliver before r).store) s ≡ Some (outgoing_to B.after (sends.Back (m' q)) x x).envelope)
       w = A.mail.new (outgoing_to B.after (sends.Back (m' q)) x x) (out_has B.after (sends.Back (m' q)) x x (omega (arith, most)))
           (and_both (lt-ltb x B.after.n (omega (arith, size))) (eq-eqb x x refl))
 
@@ -111,10 +111,10 @@ module _ (n x : ℕ) (x_low : x < n) (i : Incarnation) (m m' : ℕ → Message) 
     pub answered : map (λ d. d.answer) deliveries ≡ oks (length qs)
     pub group : LeavesSound n after
     pub records : List ℕ
-    pub replies : Both (λ q r. message_in (records_of after.store) r ≡ Found (envelope_of q x (under q) (m' q))) qs records
+    pub replies : Both (λ q r. message_in (records_of after.store) r ≡ Some (envelope_of q x (under q) (m' q))) qs records
     pub held : Each (λ q. Q q (node_at after.table q)) qs
     pub same : (k : ℕ) → Each (λ q. q ≢ k) qs → node_at after.table k ≡ node_at before.table k
-    pub old : (s : ℕ) (e : Envelope) → message_in (records_of before.store) s ≡ Found e → message_in (records_of after.store) s ≡ Found e
+    pub old : (s : ℕ) (e : Envelope) → message_in (records_of before.store) s ≡ Some e → message_in (records_of after.store) s ≡ Some e
     pub fewer : length qs + free_count (records_of after.store) ≡ free_count (records_of before.store)
 
   none_answers : (before : Result) → LeavesSound n before → Answered [] before
@@ -135,7 +135,7 @@ module _ (n x : ℕ) (x_low : x < n) (i : Incarnation) (m m' : ℕ → Message) 
         fewer = omega arith;
       }
 
-  more_answer : (q r : ℕ) (qs : List ℕ) (before : Result) → message_in (records_of before.store) r ≡ Found (envelope_of x q i (m q))
+  more_answer : (q r : ℕ) (qs : List ℕ) (before : Result) → message_in (records_of before.store) r ≡ Some (envelope_of x q i (m q))
       → Each (λ b. b ≢ q) qs → One q r before → Answered qs (deliver before r) → Answered (q ∷ qs) before
   unfolding Deliver oks Both Each
   more_answer q r qs before h apart O R =
@@ -155,7 +155,7 @@ module _ (n x : ℕ) (x_low : x < n) (i : Incarnation) (m m' : ℕ → Message) 
       }
 
   pub all_answer : (qs rs : List ℕ) → Distinct qs → Each (λ q. q < n) qs → (before : Result) → LeavesSound n before
-      → Both (λ q r. message_in (records_of before.store) r ≡ Found (envelope_of x q i (m q))) qs rs
+      → Both (λ q r. message_in (records_of before.store) r ≡ Some (envelope_of x q i (m q))) qs rs
       → Each (λ q. P q (node_at before.table q)) qs → length qs ≤ free_count (records_of before.store) → Answered qs before
   unfolding Distinct Each Both
   all_answer [] [] d l before G h p room = none_answers before G
@@ -164,7 +164,7 @@ module _ (n x : ℕ) (x_low : x < n) (i : Incarnation) (m m' : ℕ → Message) 
   all_answer (q ∷ qs) (r ∷ rs) d l before G h p room =
       more_answer q r qs before h.0 d.0 O
       (all_answer qs rs d.1 l.1 (deliver before r) O.group
-      (both_map (λ a s. message_in (records_of before.store) s ≡ Found (envelope_of x a i (m a))) (λ a s. message_in (records_of (deliver before r).store) s ≡ Found (envelope_of x a i (m a)))
+      (both_map (λ a s. message_in (records_of before.store) s ≡ Some (envelope_of x a i (m a))) (λ a s. message_in (records_of (deliver before r).store) s ≡ Some (envelope_of x a i (m a)))
       (λ a s z. O.old s (envelope_of x a i (m a)) z) qs rs h.1)
       (each_map (λ a. (a ≢ q) × P a (node_at before.table a)) (λ a. P a (node_at (deliver before r).table a))
       (λ a z. subst (P a) (sym (O.same a z.0)) z.1) qs (each_two (λ a. a ≢ q) (λ a. P a (node_at before.table a)) qs d.0 p.1))

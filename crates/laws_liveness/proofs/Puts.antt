@@ -15,20 +15,20 @@ use Rattle.store_laws.proofs.Times.{stands_head}
 use Rattle.item.specs.declared.Item.{Item}
 use Rattle.message.specs.declared.Envelope.{Envelope}
 use Rattle.message.specs.declared.Outgoing.{Outgoing}
-use Rattle.message.specs.declared.Reading.TheVariants.{Found}
 use Rattle.store.specs.Change.{put_in, put_each, count_outgoing}
 use Rattle.store.specs.Head.{first_free, group_size}
 use Rattle.store.specs.Sound.{free_count, message_in}
 use Rattle.operations.proofs.Inbox.{no_fault}
+use Rattle.std.specs.Prelude.{Some}
 
 pub record Puts (rs rs' : List (List ℕ)) (os : List Outgoing) : Type 0 where
-  pub old : (r : ℕ) (e : Envelope) → message_in rs r ≡ Found e → message_in rs' r ≡ Found e
-  pub new : (o : Outgoing) → Memᴰ o os → o.present ≡ true → (r : ℕ) × (message_in rs' r ≡ Found o.envelope)
+  pub old : (r : ℕ) (e : Envelope) → message_in rs r ≡ Some e → message_in rs' r ≡ Some e
+  pub new : (o : Outgoing) → Memᴰ o os → o.present ≡ true → (r : ℕ) × (message_in rs' r ≡ Some o.envelope)
   pub fewer : count_outgoing os + free_count rs' ≡ free_count rs
 
 -- the record taken held no message
-stays : (rs : List (List ℕ)) (e : Envelope) (rows : List Item) → Sound rs → PutDone rs e rows → (r : ℕ) (c : Envelope) → message_in rs r ≡ Found c
-    → message_in (put_in rs e rows) r ≡ Found c
+stays : (rs : List (List ℕ)) (e : Envelope) (rows : List Item) → Sound rs → PutDone rs e rows → (r : ℕ) (c : Envelope) → message_in rs r ≡ Some c
+    → message_in (put_in rs e rows) r ≡ Some c
 stays rs e rows g d r c h =
     d.messages r (λ z. no_fault c (message_in rs r) h (ap (message_in rs) z ∙ message_free rs g.is_sound (first_free rs)
     (subst (λ (l : List ℕ). 0 < times (first_free rs) l) (sym d.free) (stands_head (first_free rs) (free_list (put_in rs e rows)))))) ∙ h
@@ -57,9 +57,9 @@ puts (o ∷ os) rs rows g fit h = step (λ rs' g' fit' h'. puts os rs' rows g' f
       where
         first : {q : Outgoing} → Puts (put_in rs o.envelope rows) (put_each (put_in rs o.envelope rows) os rows) os → PutDone rs o.envelope rows
             → (q ≡ o) ⊎ Memᴰ q os → q.present ≡ true
-            → (r : ℕ) × (message_in (put_each (put_in rs o.envelope rows) os rows) r ≡ Found q.envelope)
+            → (r : ℕ) × (message_in (put_each (put_in rs o.envelope rows) os rows) r ≡ Some q.envelope)
         first {q} E d (inl z) y =
-            (first_free rs, E.old (first_free rs) q.envelope (d.message ∙ ap (λ (u : Outgoing). Found u.envelope) (sym z)))
+            (first_free rs, E.old (first_free rs) q.envelope (d.message ∙ ap (λ (u : Outgoing). Some u.envelope) (sym z)))
         first {q} E d (inr m) y = E.new q m y
     step rest false p b =
         let E : Puts rs (put_each rs os rows) os = rest rs g (λ q m z. fit q (Memᴰ.tail m) z) b in
@@ -70,6 +70,6 @@ puts (o ∷ os) rs rows g fit h = step (λ rs' g' fit' h'. puts os rs' rows g' f
         }
       where
         second : {q : Outgoing} → Puts rs (put_each rs os rows) os → (q ≡ o) ⊎ Memᴰ q os → q.present ≡ true
-            → (r : ℕ) × (message_in (put_each rs os rows) r ≡ Found q.envelope)
+            → (r : ℕ) × (message_in (put_each rs os rows) r ≡ Some q.envelope)
         second {q} E (inl z) y = absurd (false≢true (sym p ∙ sym (ap (λ (u : Outgoing). u.present) z) ∙ y))
         second {q} E (inr m) y = E.new q m y

@@ -14,7 +14,6 @@ use Rattle.item.specs.declared.counters.Attempt.{Attempt}
 use Rattle.item.specs.declared.counters.Incarnation.{Incarnation}
 use Rattle.item.specs.declared.Item.{Item}
 use Rattle.message.specs.declared.Message.TheVariants as message
-use Rattle.message.specs.declared.Reading.TheVariants.{Found}
 use Rattle.store.specs.Change.{count_outgoing}
 use Rattle.store.specs.Records.{records_of}
 use Rattle.store.specs.Sound.{free_count, message_in}
@@ -47,6 +46,7 @@ use Rattle.laws_liveness.proofs.Lists.{each_map, each_all, each_two, both_map, b
 use Rattle.laws_liveness.proofs.Peer.{Answered, all_answer}
 use Rattle.laws_liveness.proofs.Stages.{MayTake, Holding, store_answer, confirm_answer, AtStoring, to_confirm, stored_taken, storing_kept, confirm_fits, AtConfirming, confirmed_taken, confirming_kept, success_fits, confirming_at, settles}
 use Rattle.laws_liveness.proofs.Writer.{Tallied, tally}
+use Rattle.std.specs.Prelude.{Some}
 
 some_half : (n : ℕ) → valid_size n ≡ true → 0 < half n
 unfolding half
@@ -70,7 +70,7 @@ module _ (n x : ℕ) (x_low : x < n) (i : Incarnation) (a : Attempt) (item : Ite
   not_x = each_map (λ q. (q < n) × (q ≢ x)) (λ q. q ≢ x) (λ q z. z.1) peers others
 
   stored_round : (before : Result) → LeavesSound n before → (qs rs : List ℕ) → Distinct qs → Each (λ q. q < n) qs → length qs ≡ half n
-      → Both (λ q r. message_in (records_of before.store) r ≡ Found (envelope_of q x (under q) (message.Stored i a item))) qs rs
+      → Both (λ q r. message_in (records_of before.store) r ≡ Some (envelope_of q x (under q) (message.Stored i a item))) qs rs
       → AtStoring n x i a item under 0 (node_at before.table x) → (node_at before.table x).counted ≡ no_peers → half n ≤ free_count (records_of before.store)
       → Tallied n x x_low under (message.Stored i a item) (to_confirm n x i a item under) (AtStoring n x i a item under) (half n)
       (stored_taken n x i a item under) (storing_kept n x i a item under) (confirm_fits n x i a item under) qs before
@@ -85,7 +85,7 @@ module _ (n x : ℕ) (x_low : x < n) (i : Incarnation) (a : Attempt) (item : Ite
       (omega (arith, ap count_peers none, none_counted_lem)) room
 
   confirmed_round : (before : Result) → LeavesSound n before → (qs rs : List ℕ) → Distinct qs → Each (λ q. q < n) qs → length qs ≡ half n
-      → Both (λ q r. message_in (records_of before.store) r ≡ Found (envelope_of q x (under q) (message.Confirmed i a item))) qs rs
+      → Both (λ q r. message_in (records_of before.store) r ≡ Some (envelope_of q x (under q) (message.Confirmed i a item))) qs rs
       → Each (λ p. AtConfirming n x i a item under p (node_at before.table x)) qs → (node_at before.table x).counted ≡ no_peers
       → Tallied n x x_low under (message.Confirmed i a item) store_success (AtConfirming n x i a item under) 0
       (confirmed_taken n x i a item under) (confirming_kept n x i a item under) (success_fits n x i a item under) qs before
@@ -109,10 +109,10 @@ module _ (n x : ℕ) (x_low : x < n) (i : Incarnation) (a : Attempt) (item : Ite
   -- the Confirms that the f-th Stored sends
   confirm_sent : (middle after : Result) → LeavesSound n middle → (node : Node) (back : ℕ) → Acted n middle x back (to_confirm n x i a item under node) after
       → AtStoring n x i a item under 0 node → (q : ℕ) → q < n → peer_of node.counted q ≡ peer_under (under q)
-      → (r : ℕ) × (message_in (records_of after.store) r ≡ Found (envelope_of x q i (message.Confirm (under q) a item)))
+      → (r : ℕ) × (message_in (records_of after.store) r ≡ Some (envelope_of x q i (message.Confirm (under q) a item)))
   unfolding send_confirm ok confirming_begun outgoing_to goes_to message_to own_item row_of
   confirm_sent middle after G node back A w q low e =
-      (s.0, s.1 ∙ (λ j. Found (envelope_of (number j) q (w.1.0 j) (message.Confirm (e j).incarnation (w.1.1 j) (w.1.2 j)))))
+      (s.0, s.1 ∙ (λ j. Some (envelope_of (number j) q (w.1.0 j) (message.Confirm (e j).incarnation (w.1.1 j) (w.1.2 j)))))
     where
       next : Node
       next = confirming_begun node (at_stage node.phase Confirming)
@@ -129,7 +129,7 @@ module _ (n x : ℕ) (x_low : x < n) (i : Incarnation) (a : Attempt) (item : Ite
       size : node.n ≡ n
       size = size_is n x next sound
 
-      s : (r : ℕ) × (message_in (records_of after.store) r ≡ Found (outgoing_to next (sends.Asked next.attempt (own_item next)) back q).envelope)
+      s : (r : ℕ) × (message_in (records_of after.store) r ≡ Some (outgoing_to next (sends.Asked next.attempt (own_item next)) back q).envelope)
       s = A.mail.new (outgoing_to next (sends.Asked next.attempt (own_item next)) back q)
           (out_has next (sends.Asked next.attempt (own_item next)) back q (omega (arith, size_fits n (group_valid n middle.table middle.store G))))
           (and_both (lt-ltb q node.n (omega (arith, size))) (ap (λ (p : Peer). p.present) e))
@@ -147,7 +147,7 @@ module _ (n x : ℕ) (x_low : x < n) (i : Incarnation) (a : Attempt) (item : Ite
         ≡ oks (length peers) ++ (oks (length peers) ++ (oks (length peers) ++ (oks (length peers - 1) ++ (answer.Settled item ∷ []))))
 
   module _ (before : Result) (G : LeavesSound n before) (rs : List ℕ)
-      (stores : Both (λ q r. message_in (records_of before.store) r ≡ Found (envelope_of x q i (message.Store a item))) peers rs)
+      (stores : Both (λ q r. message_in (records_of before.store) r ≡ Some (envelope_of x q i (message.Store a item))) peers rs)
       (ready : Each (λ q. MayTake x (x_small before G) i a item under q (node_at before.table q)) peers)
       (w : AtStoring n x i a item under 0 (node_at before.table x)) (none : (node_at before.table x).counted ≡ no_peers)
       (room : half n + half n + half n ≤ free_count (records_of before.store)) where
@@ -176,10 +176,10 @@ module _ (n x : ℕ) (x_low : x < n) (i : Incarnation) (a : Attempt) (item : Ite
     is_next : node_at T2.after.table x ≡ next
     is_next = replaced n T2.middle T2.after T2.middle_group x x_low next T2.acted.table_is
 
-    asked : (rs : List ℕ) × Both (λ q r. message_in (records_of T2.after.store) r ≡ Found (envelope_of x q i (message.Confirm (under q) a item))) peers rs
-    asked = both_of (λ q r. message_in (records_of T2.after.store) r ≡ Found (envelope_of x q i (message.Confirm (under q) a item))) peers
+    asked : (rs : List ℕ) × Both (λ q r. message_in (records_of T2.after.store) r ≡ Some (envelope_of x q i (message.Confirm (under q) a item))) peers rs
+    asked = both_of (λ q r. message_in (records_of T2.after.store) r ≡ Some (envelope_of x q i (message.Confirm (under q) a item))) peers
         (each_map (λ q. (q < n) × (peer_of T2.node.counted q ≡ peer_under (under q)))
-        (λ q. (r : ℕ) × (message_in (records_of T2.after.store) r ≡ Found (envelope_of x q i (message.Confirm (under q) a item))))
+        (λ q. (r : ℕ) × (message_in (records_of T2.after.store) r ≡ Some (envelope_of x q i (message.Confirm (under q) a item))))
         (λ q z. confirm_sent T2.middle T2.after T2.middle_group T2.node T2.back T2.acted w2 q z.0 z.1) peers
         (each_two (λ q. q < n) (λ q. peer_of T2.node.counted q ≡ peer_under (under q)) peers lows T2.marks))
 
@@ -262,10 +262,10 @@ write_gets_through n x peers records result P B =
     number : writer.number ≡ x
     number = number_is n x writer (node_sound n result.table (group_table n result.table result.store B.sound) x B.below)
 
-    stores : Both (λ q r. message_in (records_of result.store) r ≡ Found (envelope_of x q writer.incarnation (message.Store writer.attempt (own_item writer)))) peers records
-    stores = both_map (λ q r. message_in (records_of result.store) r ≡ Found (store_to writer q (under q)))
-        (λ q r. message_in (records_of result.store) r ≡ Found (envelope_of x q writer.incarnation (message.Store writer.attempt (own_item writer))))
-        (λ q r z. z ∙ (λ j. Found (envelope_of (number j) q writer.incarnation (message.Store writer.attempt (own_item writer))))) peers records B.stores
+    stores : Both (λ q r. message_in (records_of result.store) r ≡ Some (envelope_of x q writer.incarnation (message.Store writer.attempt (own_item writer)))) peers records
+    stores = both_map (λ q r. message_in (records_of result.store) r ≡ Some (store_to writer q (under q)))
+        (λ q r. message_in (records_of result.store) r ≡ Some (envelope_of x q writer.incarnation (message.Store writer.attempt (own_item writer))))
+        (λ q r z. z ∙ (λ j. Some (envelope_of (number j) q writer.incarnation (message.Store writer.attempt (own_item writer))))) peers records B.stores
 
     W : Whole n x B.below writer.incarnation writer.attempt (own_item writer) under peers P.others P.distinct P.count result
     W = through n x B.below writer.incarnation writer.attempt (own_item writer) under peers P.others P.distinct P.count result B.sound records stores

@@ -15,7 +15,6 @@ use Rattle.item.specs.declared.Item.{Item}
 use Rattle.record.specs.Layout.{rows_of}
 use Rattle.message.specs.declared.Envelope.{Envelope}
 use Rattle.message.specs.declared.Message.{Message}
-use Rattle.message.specs.declared.Reading.TheVariants.{Found}
 use Rattle.store.specs.Change.{count_outgoing}
 use Rattle.store.specs.Records.{records_of, record_in}
 use Rattle.store.specs.Sound.{free_count, message_in}
@@ -44,6 +43,7 @@ use Rattle.laws_liveness.specs.Delivery.{Delivery, deliver, Deliver, oks, envelo
 use Rattle.laws_liveness.specs.Each.{Each, Both, Distinct}
 use Rattle.laws_liveness.proofs.Delivering.{Acted, delivery_as, sound_as, replaced, left_alone}
 use Rattle.laws_liveness.proofs.Lists.{each_map, each_two, both_map}
+use Rattle.std.specs.Prelude.{Some}
 
 -- one more is counted
 pub count_set : (peers : List Peer) (q : ℕ) (p : Peer) → p.present ≡ true → (peer_of peers q).present ≡ false → q < length peers
@@ -70,7 +70,7 @@ module _ (n x : ℕ) (x_low : x < n) (under : ℕ → Incarnation) (m : Message)
   with_q before q = with_counted (node_at before.table x) q (under q)
 
   -- a message in record r, where q is not counted yet
-  module _ (q r : ℕ) (before : Result) (G : LeavesSound n before) (h : message_in (records_of before.store) r ≡ Found (envelope_of q x (under q) m))
+  module _ (q r : ℕ) (before : Result) (G : LeavesSound n before) (h : message_in (records_of before.store) r ≡ Some (envelope_of q x (under q) m))
       (low : q < n) (ready : Ready q (node_at before.table x)) (absent : (peer_of (node_at before.table x).counted q).present ≡ false) where
     long : q < length (node_at before.table x).counted
     long = omega (arith, (G.within.shaped x).counted_length, size_fits n (group_valid n before.table before.store G))
@@ -140,7 +140,7 @@ module _ (n x : ℕ) (x_low : x < n) (under : ℕ → Incarnation) (m : Message)
     pub same : (k : ℕ) → k ≢ x → node_at after.table k ≡ node_at before.table k
     pub free : free_count (records_of middle.store) ≡ free_count (records_of before.store)
 
-  last_tally : (q r : ℕ) (before : Result) (G : LeavesSound n before) (h : message_in (records_of before.store) r ≡ Found (envelope_of q x (under q) m))
+  last_tally : (q r : ℕ) (before : Result) (G : LeavesSound n before) (h : message_in (records_of before.store) r ≡ Some (envelope_of q x (under q) m))
       (low : q < n) (ready : Ready q (node_at before.table x)) (absent : (peer_of (node_at before.table x).counted q).present ≡ false)
       → suc (count_peers (node_at before.table x).counted) ≡ half n → need ≤ free_count (records_of before.store) → Tallied (q ∷ []) before
   unfolding Deliver oks Each
@@ -169,7 +169,7 @@ module _ (n x : ℕ) (x_low : x < n) (under : ℕ → Incarnation) (m : Message)
       A : Acted n before x q (final (with_q before q)) (deliver before r)
       A = ends q r before G h low ready absent full room
 
-  more_tally : (q r : ℕ) (qs : List ℕ) (before : Result) (G : LeavesSound n before) (h : message_in (records_of before.store) r ≡ Found (envelope_of q x (under q) m))
+  more_tally : (q r : ℕ) (qs : List ℕ) (before : Result) (G : LeavesSound n before) (h : message_in (records_of before.store) r ≡ Some (envelope_of q x (under q) m))
       (low : q < n) (ready : Ready q (node_at before.table x)) (absent : (peer_of (node_at before.table x).counted q).present ≡ false)
       → Each (λ b. b ≢ q) qs → (A : Acted n before x q (ok (with_q before q) sends.Nothing) (deliver before r)) → Tallied qs (deliver before r) → Tallied (q ∷ qs) before
   unfolding Deliver oks Each ok
@@ -202,7 +202,7 @@ module _ (n x : ℕ) (x_low : x < n) (under : ℕ → Incarnation) (m : Message)
       none_taken = omega (arith, A.mail.fewer, nothing_sent_lem (with_q before q) q)
 
   pub tally : (q : ℕ) (qs : List ℕ) (r : ℕ) (rs : List ℕ) → Distinct (q ∷ qs) → Each (λ a. a < n) (q ∷ qs) → (before : Result) → LeavesSound n before
-      → Both (λ a s. message_in (records_of before.store) s ≡ Found (envelope_of a x (under a) m)) (q ∷ qs) (r ∷ rs)
+      → Both (λ a s. message_in (records_of before.store) s ≡ Some (envelope_of a x (under a) m)) (q ∷ qs) (r ∷ rs)
       → Each (λ a. Ready a (node_at before.table x)) (q ∷ qs) → Each (λ a. (peer_of (node_at before.table x).counted a).present ≡ false) (q ∷ qs)
       → count_peers (node_at before.table x).counted + suc (length qs) ≡ half n → need ≤ free_count (records_of before.store) → Tallied (q ∷ qs) before
   unfolding Distinct Each Both ok
@@ -213,7 +213,7 @@ module _ (n x : ℕ) (x_low : x < n) (under : ℕ → Incarnation) (m : Message)
   tally q (p ∷ qs) r (s ∷ rs) d l before G h ready absent count room =
       more_tally q r (p ∷ qs) before G h.0 l.0 ready.0 absent.0 d.0 A
       (tally p qs s rs d.1 l.1 (deliver before r) A.group
-      (both_map (λ a t. message_in (records_of before.store) t ≡ Found (envelope_of a x (under a) m)) (λ a t. message_in (records_of (deliver before r).store) t ≡ Found (envelope_of a x (under a) m))
+      (both_map (λ a t. message_in (records_of before.store) t ≡ Some (envelope_of a x (under a) m)) (λ a t. message_in (records_of (deliver before r).store) t ≡ Some (envelope_of a x (under a) m))
       (λ a t z. A.mail.old t (envelope_of a x (under a) m) z) (p ∷ qs) (s ∷ rs) h.1)
       (each_map (λ a. Ready a (node_at before.table x)) (λ a. Ready a (node_at (deliver before r).table x))
       (λ a z. subst (Ready a) (sym is_with) (kept a q (node_at before.table x) z)) (p ∷ qs) ready.1)

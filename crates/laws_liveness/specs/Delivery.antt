@@ -1,11 +1,10 @@
 -- Deliveries one after the other, each with the message delivered and the answer; and the four messages of a write between
 -- its writer and a peer.
-use Rattle.std.specs.Prelude.{ℕ, zero, suc, ◌≡◌, List, [], ◌∷◌}
+use Rattle.std.specs.Prelude.{ℕ, zero, suc, ◌≡◌, List, [], ◌∷◌, Some}
 use Rattle.item.specs.declared.counters.Incarnation.{Incarnation}
 use Rattle.message.specs.declared.Envelope.{Envelope}
 use Rattle.message.specs.declared.Message.{Message}
 use Rattle.message.specs.declared.Message.TheVariants as message
-use Rattle.message.specs.declared.Reading.TheVariants.{Found}
 use Rattle.store.specs.Records.{records_of}
 use Rattle.store.specs.Sound.{message_in}
 use Rattle.protocol.specs.Node.{own_item}
@@ -28,7 +27,7 @@ deliver result r = perform (event.Deliver r) result.table result.store
 unfoldable pub Deliver : Result → List Delivery → Result → Type 0
 Deliver before [] after = before ≡ after
 Deliver before (d ∷ ds) after =
-    (message_in (records_of before.store) d.at ≡ Found d.message) × ((deliver before d.at).answer ≡ d.answer) ×
+    (message_in (records_of before.store) d.at ≡ Some d.message) × ((deliver before d.at).answer ≡ d.answer) ×
     Deliver (deliver before d.at) ds after
 
 unfoldable pub oks : ℕ → List Answer

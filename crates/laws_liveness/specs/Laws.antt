@@ -1,11 +1,10 @@
 -- Progress: a write that has just begun is settled by 4f deliveries, none refused, to and from f peers that are Up.
-use Rattle.std.specs.Prelude.{ℕ, ◌+◌, ◌*◌, ◌-◌, ◌≤◌, ◌<◌, ◌^◌, ◌≡◌, ◌≢◌, true, false, List, [], ◌∷◌, ◌++◌, map, length}
+use Rattle.std.specs.Prelude.{ℕ, ◌+◌, ◌*◌, ◌-◌, ◌≤◌, ◌<◌, ◌^◌, ◌≡◌, ◌≢◌, true, false, List, [], ◌∷◌, ◌++◌, map, length, Some}
 use Rattle.item.specs.Counter.{attempt_at_largest, next_attempt}
 use Rattle.item.specs.Maxima.{tag_size}
 use Rattle.item.specs.declared.counters.Incarnation.{Incarnation}
 use Rattle.item.specs.declared.Item.{Item}
 use Rattle.item.specs.declared.Tag.{Tag}
-use Rattle.message.specs.declared.Reading.TheVariants.{Found}
 use Rattle.store.specs.Records.{records_of}
 use Rattle.store.specs.Sound.{free_count, message_in}
 use Rattle.protocol.specs.Node.{half, no_peers, row_of, own_item}
@@ -48,7 +47,7 @@ pub record HasBegun (n x : ℕ) (peers records : List ℕ) (result : Result) : T
   pub storing : (node_at result.table x).phase ≡ Up Storing
   pub none_counted : (node_at result.table x).counted ≡ no_peers
   pub stores : Both
-      (λ q r. message_in (records_of result.store) r ≡ Found (store_to (node_at result.table x) q (node_at result.table q).incarnation))
+      (λ q r. message_in (records_of result.store) r ≡ Some (store_to (node_at result.table x) q (node_at result.table q).incarnation))
       peers records
   pub up : Each (λ q. is_up (node_at result.table q).phase ≡ true) peers
   pub taken : Each

@@ -19,8 +19,6 @@ use Rattle.message.specs.declared.Outgoing.{Outgoing}
 use Rattle.record.specs.Record.{read_record, record_bytes}
 use Rattle.record.specs.RoundTrip.{Fits, RowsFit, ReadsBack}
 use Rattle.record.proofs.RoundTripLaws.{reads_back}
-use Rattle.message.specs.declared.Reading.{Reading}
-use Rattle.message.specs.declared.Reading.TheVariants.{Found, Fault}
 use Rattle.store.specs.Change.{put_each, count_outgoing, drop_in}
 use Rattle.store.specs.Head.{group_size}
 use Rattle.store.proofs.Locality.{put_each_local, drop_local}
@@ -67,6 +65,7 @@ use Rattle.laws_runs.specs.Within.{Within}
 use Rattle.laws_runs.proofs.Bytes.{put_each_bytes, drop_bytes, joined_bytes, records_bytes}
 use Rattle.laws_runs.proofs.Going.{Going, going, is_back, write_not, retry_not, crash_not, start_not}
 use Rattle.laws_runs.proofs.Messages.{Says, says}
+use Rattle.std.specs.Prelude.{None, Option, Some}
 
 -- ---- a sound table
 
@@ -240,10 +239,10 @@ module _ (n : ℕ) (table : List Node) (store : List ℕ) (G : SoundGroup n tabl
       (λ e. carried k k (f (node_at table k)) (d (omega (arith, ltb-true k (group_size (records_of store)) e, G.size))))
       (λ _. G)
 
-  drops : (r : ℕ) (m : Reading) → message_in (records_of store) r ≡ m → LeavesSound n (dropped m r table store (records_of store))
+  drops : (r : ℕ) (m : Option Envelope) → message_in (records_of store) r ≡ m → LeavesSound n (dropped m r table store (records_of store))
   unfolding dropped refuse
-  drops r Fault h = G
-  drops r (Found e) h =
+  drops r None h = G
+  drops r (Some e) h =
       let w = message_inbox (records_of store) group_records r e h in
       let d : DropDone (records_of store) e.addressee r = drop_done (records_of store) (store_sound store group_store) e.addressee w.0 r w.1 in
       changed_sound (drop_in (records_of store) e.addressee r)
@@ -256,14 +255,14 @@ module _ (n : ℕ) (table : List Node) (store : List ℕ) (G : SoundGroup n tabl
       })
 
   -- the message in a record may come to its addressee
-  module _ (r : ℕ) (e : Envelope) (h : message_in (records_of store) r ≡ Found e) where
+  module _ (r : ℕ) (e : Envelope) (h : message_in (records_of store) r ≡ Some e) where
     pub addressed : Addressed n e
     addressed = subst (λ (i : ℕ). Addressed i e) G.size (in_inbox (records_of store) r e group_records h)
 
     pub said : Says n e (rows_of (record_in (records_of store) r))
     said =
         says n (record_in (records_of store) r) (records_bytes store G.within.bytes r) e
-        (subst (λ (i : ℕ). read_record i (record_in (records_of store) r) ≡ Found e) G.size (message_read (records_of store) r e h).1)
+        (subst (λ (i : ℕ). read_record i (record_in (records_of store) r) ≡ Some e) G.size (message_read (records_of store) r e h).1)
 
     pub comes : Comes n e.addressee e (rows_of (record_in (records_of store) r))
     comes =
@@ -290,10 +289,10 @@ module _ (n : ℕ) (table : List Node) (store : List ℕ) (G : SoundGroup n tabl
           other = λ _. addressed.from_other;
         }
 
-  delivers : (r : ℕ) (m : Reading) → message_in (records_of store) r ≡ m → LeavesSound n (delivered m r table store (records_of store))
+  delivers : (r : ℕ) (m : Option Envelope) → message_in (records_of store) r ≡ m → LeavesSound n (delivered m r table store (records_of store))
   unfolding delivered refuse
-  delivers r Fault h = G
-  delivers r (Found e) h = carried e.addressee e.sender _ (deliver_decided r e h)
+  delivers r None h = G
+  delivers r (Some e) h = carried e.addressee e.sender _ (deliver_decided r e h)
 
   on_sound_lem : (e : Event) → TagFits e → LeavesSound n (on_sound e table store (records_of store))
   unfolding on_sound TagFits

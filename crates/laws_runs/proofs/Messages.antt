@@ -20,8 +20,6 @@ use Rattle.item.specs.Maxima.{max_nodes, tag_size}
 use Rattle.item.specs.Tests.{by_cond, and_left, and_right}
 use Rattle.item.specs.declared.Item.{Item}
 use Rattle.record.specs.declared.kinds.Fields.{Fields}
-use Rattle.record.specs.declared.kinds.Known.{Known}
-use Rattle.record.specs.declared.kinds.Known.TheVariants as known
 use Rattle.record.specs.Kind.{store_kind, stored_kind, confirm_kind, confirmed_kind, fetch_kind, table_kind, no_incarnation, no_write, message_of, rows_held, other_of, attempt_of, item_of}
 use Rattle.record.specs.Layout.{record_size, incarnation_at, other_at, attempt_at, item_at, rows_at, index_size, row_size, item_in, items_in, fields_in, rows_of}
 use Rattle.record.proofs.LayoutLaws.{length_items, get_or_items}
@@ -30,10 +28,9 @@ use Rattle.message.specs.declared.Message.{Message}
 use Rattle.message.specs.declared.Message.TheVariants as message
 use Rattle.record.specs.Record.{zero_after_rows, read_as, read_record}
 use Rattle.record.specs.RoundTrip.{ItemFits}
-use Rattle.message.specs.declared.Reading.{Reading}
-use Rattle.message.specs.declared.Reading.TheVariants.{Found, Fault}
 use Rattle.operations.specs.Fits.{CounterFits}
 use Rattle.operations.proofs.Fitting.{MessageFits, zero_fits}
+use Rattle.std.specs.Prelude.{None, Option, Some}
 
 -- ---- numbers of bytes, and of zero bytes
 
@@ -113,9 +110,9 @@ rows_fit r h j =
 -- ---- the message
 
 -- what the fields say fits, if the fields do
-unfoldable KnownFits : Known → Type 0
-KnownFits known.Unknown = Unit {0}
-KnownFits (known.Known m) = MessageFits m
+unfoldable KnownFits : Option Message → Type 0
+KnownFits None = Unit {0}
+KnownFits (Some m) = MessageFits m
 
 known_fits : (f : Fields) → CounterFits f.other.0 → CounterFits f.attempt.0 → ItemFits f.item → KnownFits (message_of f)
 unfolding message_of KnownFits other_of attempt_of item_of
@@ -142,15 +139,15 @@ pub record Says (n : ℕ) (e : Envelope) (items : List Item) : Type 0 where
   pub items_fit : (j : ℕ) → ItemFits (get_or items j zero_item)
   pub items_zero : (j : ℕ) → n ≤ j → get_or items j zero_item ≡ zero_item
 
-unfoldable ReadingSays : ℕ → List ℕ → Reading → Type 0
-ReadingSays n r Fault = Unit {0}
-ReadingSays n r (Found e) = Says n e (rows_of r)
+unfoldable ReadingSays : ℕ → List ℕ → Option Envelope → Type 0
+ReadingSays n r None = Unit {0}
+ReadingSays n r (Some e) = Says n e (rows_of r)
 
 module _ (n : ℕ) (r : List ℕ) (h : AreBytes r) where
-  as_says : (k : Known) → KnownFits k → ReadingSays n r (read_as n k r)
+  as_says : (k : Option Message) → KnownFits k → ReadingSays n r (read_as n k r)
   unfolding read_as ReadingSays KnownFits fields_in rows_of
-  as_says known.Unknown f = tt
-  as_says (known.Known m) f =
+  as_says None f = tt
+  as_says (Some m) f =
       by_cond (ReadingSays n r) (zero_after_rows n m r) _ _
       (λ e. record {
         message_fits = f;
@@ -169,6 +166,6 @@ module _ (n : ℕ) (r : List ℕ) (h : AreBytes r) where
       (known_fits (fields_in r) (number_fits 4 r other_at (omega arith) h) (number_fits 4 r attempt_at (omega arith) h) (item_fits_lem r item_at h)))
       (λ _. tt)
 
-  pub says : (e : Envelope) → read_record n r ≡ Found e → Says n e (rows_of r)
+  pub says : (e : Envelope) → read_record n r ≡ Some e → Says n e (rows_of r)
   unfolding ReadingSays
   says e q = subst (ReadingSays n r) q record_says

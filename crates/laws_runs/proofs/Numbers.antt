@@ -10,8 +10,6 @@ use lib.Dec.{leb, ltb}
 use borrow.Author.Tests.{leb-true}
 use Rattle.item.specs.Tests.{by_cond, and_left, and_right}
 use Rattle.record.specs.Layout.{rows_of}
-use Rattle.message.specs.declared.Reading.{Reading}
-use Rattle.message.specs.declared.Reading.TheVariants.{Found, Fault}
 use Rattle.store.specs.Change.{count_outgoing}
 use Rattle.store.specs.Head.{group_size}
 use Rattle.store.specs.Records.{record_in}
@@ -31,6 +29,8 @@ use Rattle.protocol.specs.declared.Refusal.{Refusal}
 use Rattle.protocol.specs.declared.Refusal.TheVariants.{NoNode, NoRoom, NoMessage}
 use Rattle.protocol.specs.declared.Step.{Step}
 use Rattle.protocol.proofs.Deciding.{RefusesBy, of_node, of_message, write_refuses, retry_refuses, start_refuses, crash_refuses, on_message_refuses}
+use Rattle.std.specs.Prelude.{None, Option, Some}
+use Rattle.message.specs.declared.Envelope.{Envelope}
 
 -- numbers from 4 on
 all_above : List ℕ → Bool
@@ -75,15 +75,15 @@ module _ (table : List Node) (store : List ℕ) (rs : List (List ℕ)) where
       (λ _. carried_above numbers a k k (decide (node_at table k)) h)
       (λ _. by_refuse NoNode table store (omega arith))
 
-  dropped_above : (r : ℕ) (m : Reading) → Above (dropped m r table store rs)
+  dropped_above : (r : ℕ) (m : Option Envelope) → Above (dropped m r table store rs)
   unfolding dropped
-  dropped_above r Fault = by_refuse NoMessage table store (omega arith)
-  dropped_above r (Found e) = no_refusal answer.Ok refl
+  dropped_above r None = by_refuse NoMessage table store (omega arith)
+  dropped_above r (Some e) = no_refusal answer.Ok refl
 
-  delivered_above : (r : ℕ) (m : Reading) → Above (delivered m r table store rs)
+  delivered_above : (r : ℕ) (m : Option Envelope) → Above (delivered m r table store rs)
   unfolding delivered deliver_step all_above
-  delivered_above r Fault = by_refuse NoMessage table store (omega arith)
-  delivered_above r (Found e) =
+  delivered_above r None = by_refuse NoMessage table store (omega arith)
+  delivered_above r (Some e) =
       carried_above of_message refl e.addressee e.sender _
       (on_message_refuses e.message (node_at table e.addressee) e.sender e.incarnation (rows_of (record_in rs r)))
 

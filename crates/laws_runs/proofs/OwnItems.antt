@@ -14,7 +14,6 @@ use Rattle.item.specs.Item.{zero_item, item_above}
 use Rattle.item.specs.Maxima.{valid_size}
 use Rattle.item.specs.declared.Item.{Item}
 use Rattle.item.specs.declared.Tag.{Tag}
-use Rattle.message.specs.declared.Reading.{Reading}
 use Rattle.returns.specs.History.{Note, quiet, begins, settles, returns, History, after_note, May}
 use Rattle.returns.specs.Invariant.{Own}
 use Rattle.returns.specs.View.{up, idle, ViewNode, clash}
@@ -49,6 +48,8 @@ use Rattle.protocol.proofs.Told.{told, told_by, told_last, refused_why}
 use Rattle.operations.proofs.Simulation.{of_every_run}
 use Rattle.laws_runs.specs.Along.{OfRuns, OfAllRuns, OwnStands, OwnAlong, LastNeverFalls, written_by, written_from, written, SettledWasWritten}
 use Rattle.laws_runs.proofs.Moves.{Writing, Moves, moves}
+use Rattle.std.specs.Prelude.{Option}
+use Rattle.message.specs.declared.Envelope.{Envelope}
 
 -- what is true of every run of a network is true of both
 of_both : (P : ℕ → List Call → List Node → Type 0) → OfNetworkRuns (λ n calls net. P n calls net.nodes) → OfAllRuns P
@@ -254,7 +255,7 @@ named_below n x G (node_refuses {step = step} d r) item a t = absurd (false≢tr
 named_below n x G (drops r) item a t = clash (cc)
 named_below n x {net = net} G (acts d z) item a t = go d t
   where
-    go : {e : Event} {m : Reading} {k back : ℕ} {step : Step} → Decides net e m k back step → is_to x m ≡ true → x < n
+    go : {e : Event} {m : Option Envelope} {k back : ℕ} {step : Step} → Decides net e m k back step → is_to x m ≡ true → x < n
     go (writes k tag b) t = absurd (false≢true t)
     go (retries k b) t = absurd (false≢true t)
     go (crashes k b) t = absurd (false≢true t)
@@ -269,7 +270,7 @@ told_settles x (node_refuses {step = step} d r) item a t = absurd (false≢true 
 told_settles x (drops r) item a t = clash (cc)
 told_settles x {net = net} (acts d z) item a t = go d a t
   where
-    go : {e : Event} {m : Reading} {k back : ℕ} {step : Step} → Decides net e m k back step → step.answer ≡ answer.Settled item
+    go : {e : Event} {m : Option Envelope} {k back : ℕ} {step : Step} → Decides net e m k back step → step.answer ≡ answer.Settled item
         → is_to x m ≡ true → told x e m step.answer ≡ settles item
     go (writes k tag b) a t = absurd (false≢true t)
     go (retries k b) a t = absurd (false≢true t)

@@ -8,7 +8,7 @@ use item::{Attempt, Incarnation, Item};
 // Confirm the one under which the addressee answered Stored, in Stored, Confirmed and Table that of the request's
 // sender. Stored, Confirm and Confirmed bear the attempt and item of the Store that they belong to. The rows of a
 // Table travel in an array beside it.
-#[derive(Clone, Copy)]
+#[derive(Clone, Copy, PartialEq, Eq)]
 pub enum Message {
     Store {
         attempt: Attempt,
@@ -36,7 +36,7 @@ pub enum Message {
 }
 
 // A message with the numbers of its sender and addressee and the sender's incarnation.
-#[derive(Clone, Copy)]
+#[derive(Clone, Copy, PartialEq, Eq)]
 pub struct Envelope {
     pub sender: usize,
     pub addressee: usize,
@@ -45,16 +45,8 @@ pub struct Envelope {
 }
 
 // A place for one message of a call that sends to several nodes: whether there is one, and the message.
-#[derive(Clone, Copy)]
+#[derive(Clone, Copy, PartialEq, Eq)]
 pub struct Outgoing {
     pub present: bool,
     pub envelope: Envelope,
-}
-
-// A message, or none: what reading a record gives, and what a call delivers.
-#[derive(Clone, Copy)]
-pub enum Reading {
-    Found(Envelope),
-    // No message: an unknown kind, or an unused byte that is not 0.
-    Fault,
 }

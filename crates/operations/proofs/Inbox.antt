@@ -8,23 +8,22 @@ use lib.Dec.{eqb}
 use borrow.Author.Tests.{eqb-false}
 use Rattle.message.specs.declared.Envelope.{Envelope}
 use Rattle.record.specs.Record.{read_record}
-use Rattle.message.specs.declared.Reading.{Reading}
-use Rattle.message.specs.declared.Reading.TheVariants.{Found, Fault}
 use Rattle.returns.specs.View.{clash}
 use Rattle.store.specs.Head.{group_size}
 use Rattle.store.specs.Records.{record_in}
 use Rattle.store.specs.Sound.{message_in}
+use Rattle.std.specs.Prelude.{None, Option, Some}
 
-pub no_fault : (e : Envelope) (m : Reading) → m ≡ Found e → m ≡ Fault → ⊥
+pub no_fault : (e : Envelope) (m : Option Envelope) → m ≡ Some e → m ≡ None → ⊥
 no_fault e m h z = clash (cc)
 
 -- the message in a record: the record is not the head, and reads so
-pub message_read : (rs : List (List ℕ)) (r : ℕ) (e : Envelope) → message_in rs r ≡ Found e
-    → (r ≢ 0) × (read_record (group_size rs) (record_in rs r) ≡ Found e)
+pub message_read : (rs : List (List ℕ)) (r : ℕ) (e : Envelope) → message_in rs r ≡ Some e
+    → (r ≢ 0) × (read_record (group_size rs) (record_in rs r) ≡ Some e)
 unfolding message_in
 message_read rs r e = go (eqb r 0) refl
   where
-    go : (t : Bool) → eqb r 0 ≡ t → cond t Fault (read_record (group_size rs) (record_in rs r)) ≡ Found e
-        → (r ≢ 0) × (read_record (group_size rs) (record_in rs r) ≡ Found e)
+    go : (t : Bool) → eqb r 0 ≡ t → cond t None (read_record (group_size rs) (record_in rs r)) ≡ Some e
+        → (r ≢ 0) × (read_record (group_size rs) (record_in rs r) ≡ Some e)
     go true z m = clash (cc)
     go false z m = (eqb-false r 0 z, m)

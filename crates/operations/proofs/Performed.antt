@@ -13,8 +13,6 @@ use Rattle.item.specs.Tests.{by_cond}
 use Rattle.item.specs.declared.Item.{Item}
 use Rattle.record.specs.Layout.{rows_of}
 use Rattle.record.specs.Record.{read_record}
-use Rattle.message.specs.declared.Reading.{Reading}
-use Rattle.message.specs.declared.Reading.TheVariants.{Found, Fault}
 use Rattle.store.specs.Change.{drop_in}
 use Rattle.store.specs.Head.{group_size}
 use Rattle.store.proofs.Locality.{Reads, drop_local, drop_reads}
@@ -39,25 +37,27 @@ use Rattle.operations.proofs.FittingDelivery.{deliver_fits}
 use Rattle.protocol.proofs.Grouped.{Grouped}
 use Rattle.operations.proofs.Inbox.{message_read, no_fault}
 use Rattle.operations.proofs.Represents.{WasSent, AllSent, StoreOf, Represents, Simulated, network_of, store_after, refused_call, carried}
+use Rattle.std.specs.Prelude.{None, Option, Some}
+use Rattle.message.specs.declared.Envelope.{Envelope}
 
 module _ (n : ℕ) (fits : n ≤ max_nodes) (table : List Node) (store : List ℕ) (sent : List Packet) (G : Grouped n (network_of table sent))
     (S : Represents n table store sent) where
   -- an event at a node that the call names
-  at_node_lem : (e : Event) (decide : Node → Step) (k : ℕ) → (k < length table → Decides (network_of table sent) e Fault k k (decide (node_at table k)))
-      → ((node : Node) → NodeFits node → StepFits node (decide node)) → Simulated n table sent e Fault (at_node decide k table store (records_of store))
+  at_node_lem : (e : Event) (decide : Node → Step) (k : ℕ) → (k < length table → Decides (network_of table sent) e None k k (decide (node_at table k)))
+      → ((node : Node) → NodeFits node → StepFits node (decide node)) → Simulated n table sent e None (at_node decide k table store (records_of store))
   unfolding at_node by_decision
   at_node_lem e decide k d fit =
-      by_cond (Simulated n table sent e Fault) (ltb k (group_size (records_of store))) _ _
+      by_cond (Simulated n table sent e None) (ltb k (group_size (records_of store))) _ _
       (λ t.
       let h : k < length table = omega (arith, ltb-true k (group_size (records_of store)) t, S.store_of.size, G.count) in
-      carried n table store sent G S e Fault fits k k (decide (node_at table k)) (d h) (fit (node_at table k) (S.fit k)))
-      (λ _. refused_call n table store sent G S e Fault NoNode refl)
+      carried n table store sent G S e None fits k k (decide (node_at table k)) (d h) (fit (node_at table k) (S.fit k)))
+      (λ _. refused_call n table store sent G S e None NoNode refl)
 
   -- a message dropped: it was sent all the same
-  drops_one : (r : ℕ) (m : Reading) → message_in (records_of store) r ≡ m → Simulated n table sent (event.Drop r) Fault (dropped m r table store (records_of store))
+  drops_one : (r : ℕ) (m : Option Envelope) → message_in (records_of store) r ≡ m → Simulated n table sent (event.Drop r) None (dropped m r table store (records_of store))
   unfolding dropped by_decision
-  drops_one r Fault h = refused_call n table store sent G S (event.Drop r) Fault NoMessage refl
-  drops_one r (Found e) h =
+  drops_one r None h = refused_call n table store sent G S (event.Drop r) None NoMessage refl
+  drops_one r (Some e) h =
       record {
         sent_after = sent;
         next = drops r;
@@ -76,22 +76,22 @@ module _ (n : ℕ) (fits : n ≤ max_nodes) (table : List Node) (store : List �
       all_sent : AllSent n sent rs'
       all_sent i z c found = go (drop_reads (records_of store) e.addressee r d i z)
         where
-          go : Reads (record_in rs' i) (record_in (records_of store) i) ⊎ ((k : ℕ) → read_record k (record_in rs' i) ≡ Fault)
+          go : Reads (record_in rs' i) (record_in (records_of store) i) ⊎ ((k : ℕ) → read_record k (record_in rs' i) ≡ None)
               → WasSent sent c (rows_of (record_in rs' i))
           go (inl R) = rw R.rows (S.all_sent i z c (sym (R.message n) ∙ found))
           go (inr none) = absurd (no_fault c _ found (none n))
 
   -- a message delivered
-  delivers_one : (r : ℕ) (m : Reading) → message_in (records_of store) r ≡ m
+  delivers_one : (r : ℕ) (m : Option Envelope) → message_in (records_of store) r ≡ m
       → Simulated n table sent (event.Deliver r) m (delivered m r table store (records_of store))
   unfolding delivered by_decision
-  delivers_one r Fault h = refused_call n table store sent G S (event.Deliver r) Fault NoMessage refl
-  delivers_one r (Found e) h =
+  delivers_one r None h = refused_call n table store sent G S (event.Deliver r) None NoMessage refl
+  delivers_one r (Some e) h =
       let items : List Item = rows_of (record_in (records_of store) r) in
       let C : WasSent sent e items =
       S.all_sent r (message_read (records_of store) r e h).0 e
-      (subst (λ (i : ℕ). read_record i (record_in (records_of store) r) ≡ Found e) S.store_of.size (message_read (records_of store) r e h).1) in
-      carried n table store sent G S (event.Deliver r) (Found e) fits e.addressee e.sender (deliver_step (node_at table e.addressee) e items)
+      (subst (λ (i : ℕ). read_record i (record_in (records_of store) r) ≡ Some e) S.store_of.size (message_read (records_of store) r e h).1) in
+      carried n table store sent G S (event.Deliver r) (Some e) fits e.addressee e.sender (deliver_step (node_at table e.addressee) e items)
       (delivers r (record { envelope = e; rows = items }) C.was_sent)
       (deliver_fits (node_at table e.addressee) e items (S.fit e.addressee) C.fits.1 C.items_fit C.fits.0)
 

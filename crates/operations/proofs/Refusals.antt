@@ -11,8 +11,6 @@ use borrow.Author.Tests.{ltb-true}
 use Rattle.item.specs.Maxima.{max_nodes, valid_size}
 use Rattle.item.specs.Tests.{by_cond}
 use Rattle.record.specs.Layout.{rows_of}
-use Rattle.message.specs.declared.Reading.{Reading}
-use Rattle.message.specs.declared.Reading.TheVariants.{Found, Fault}
 use Rattle.store.specs.Records.{right_length, records_of, record_in}
 use Rattle.store.specs.Head.{group_size}
 use Rattle.store.specs.Sound.{sound_records, free_count, message_in}
@@ -33,6 +31,8 @@ use Rattle.protocol.specs.declared.Refusal.TheVariants.{GroupSize, StoreLength, 
 use Rattle.protocol.specs.declared.Sends.TheVariants as sends
 use Rattle.protocol.specs.declared.Step.{Step}
 use Rattle.protocol.proofs.Deciding.{found, RefusesBy, of_node, of_message, on_message_refuses, wider, write_refuses, retry_refuses, start_refuses, crash_refuses}
+use Rattle.std.specs.Prelude.{None, Option, Some}
+use Rattle.message.specs.declared.Envelope.{Envelope}
 
 -- ---- operations
 
@@ -93,15 +93,15 @@ crash_room rs node back P e =
 -- ---- every event
 
 module _ (table : List Node) (store : List ℕ) (rs : List (List ℕ)) where
-  dropped_refused : (r : ℕ) (m : Reading) → IfRefused (refusals_of (event.Drop r)) table store (dropped m r table store rs)
+  dropped_refused : (r : ℕ) (m : Option Envelope) → IfRefused (refusals_of (event.Drop r)) table store (dropped m r table store rs)
   unfolding dropped refusals_of
-  dropped_refused r Fault = by_refuse _ table store NoMessage (found _ _ refl)
-  dropped_refused r (Found e) = by_answer _ table store _ refl
+  dropped_refused r None = by_refuse _ table store NoMessage (found _ _ refl)
+  dropped_refused r (Some e) = by_answer _ table store _ refl
 
-  delivered_refused : (r : ℕ) (m : Reading) → IfRefused (refusals_of (event.Deliver r)) table store (delivered m r table store rs)
+  delivered_refused : (r : ℕ) (m : Option Envelope) → IfRefused (refusals_of (event.Deliver r)) table store (delivered m r table store rs)
   unfolding delivered deliver_step refusals_of
-  delivered_refused r Fault = by_refuse _ table store NoMessage (found _ _ refl)
-  delivered_refused r (Found e) =
+  delivered_refused r None = by_refuse _ table store NoMessage (found _ _ refl)
+  delivered_refused r (Some e) =
       let step : Step = on_message e.message (node_at table e.addressee) e.sender e.incarnation (rows_of (record_in rs r)) in
       carried_refused _ table store rs e.addressee e.sender step
       (wider of_message _ refl step (on_message_refuses e.message (node_at table e.addressee) e.sender e.incarnation (rows_of (record_in rs r))))

@@ -20,8 +20,6 @@ use Rattle.message.specs.Rows.{held_rows}
 use Rattle.record.specs.Record.{read_record, record_bytes}
 use Rattle.record.specs.RoundTrip.{ItemFits, Fits, ReadsBack}
 use Rattle.record.proofs.RoundTripLaws.{reads_back}
-use Rattle.message.specs.declared.Reading.{Reading}
-use Rattle.message.specs.declared.Reading.TheVariants.{Found}
 use Rattle.store.specs.Change.{put_each, count_outgoing}
 use Rattle.store.specs.Head.{group_size}
 use Rattle.store.proofs.Joined.{Sized, records_count, records_sized, records_joined, joined_right}
@@ -45,6 +43,7 @@ use Rattle.protocol.proofs.Grouped.{Grouped, deciding_place}
 use Rattle.protocol.proofs.InView.{Placed}
 use Rattle.protocol.proofs.Packets.{has_packet}
 use Rattle.operations.proofs.Sent.{outgoing_fits, message_fits_of, rows_fit, node_items_fit, held_fit}
+use Rattle.std.specs.Prelude.{Option, Some}
 
 -- a message with the items beside it: its numbers fit, and it was sent
 pub record WasSent (sent : List Packet) (e : Envelope) (items : List Item) : Type 0 where
@@ -54,7 +53,7 @@ pub record WasSent (sent : List Packet) (e : Envelope) (items : List Item) : Typ
 
 -- every record but the head that reads as a message was sent
 abbrev pub AllSent : ℕ → List Packet → List (List ℕ) → Type 0
-AllSent n sent rs = (r : ℕ) → r ≢ 0 → (e : Envelope) → read_record n (record_in rs r) ≡ Found e → WasSent sent e (rows_of (record_in rs r))
+AllSent n sent rs = (r : ℕ) → r ≢ 0 → (e : Envelope) → read_record n (record_in rs r) ≡ Some e → WasSent sent e (rows_of (record_in rs r))
 
 -- a store of a group of n
 pub record StoreOf (n : ℕ) (store : List ℕ) : Type 0 where
@@ -80,13 +79,13 @@ store_after n store rs S L =
     (record { right = joined_right rs many sized; size = ap group_size e ∙ L.size ∙ S.size }, e)
 
 -- a call over table and store is a call of the network, which table and store afterwards represent again
-pub record Simulated (n : ℕ) (table : List Node) (sent : List Packet) (e : Event) (m : Reading) (result : Result) : Type 0 where
+pub record Simulated (n : ℕ) (table : List Node) (sent : List Packet) (e : Event) (m : Option Envelope) (result : Result) : Type 0 where
   pub sent_after : List Packet
   pub next : Next (network_of table sent) (record { event = e; answer = result.answer; message = m }) (network_of result.table sent_after)
   pub represents : Represents n result.table result.store sent_after
 
 module _ (n : ℕ) (table : List Node) (store : List ℕ) (sent : List Packet) (G : Grouped n (network_of table sent)) (S : Represents n table store sent)
-    (event : Event) (m : Reading) where
+    (event : Event) (m : Option Envelope) where
   -- a call that table or store refuse
   pub refused_call : (why : Refusal) → by_decision why ≡ false → Simulated n table sent event m (refuse why table store)
   unfolding refuse
@@ -108,7 +107,7 @@ module _ (n : ℕ) (table : List Node) (store : List ℕ) (sent : List Packet) (
     sent' = packets_of step.node out ++ sent
 
     -- a record that holds a message just sent
-    new_sent : (r : List ℕ) (e : Envelope) → ReadsOne n out rows r → read_record n r ≡ Found e → WasSent sent' e (rows_of r)
+    new_sent : (r : List ℕ) (e : Envelope) → ReadsOne n out rows r → read_record n r ≡ Some e → WasSent sent' e (rows_of r)
     unfolding sent' rows out ReadsBack packet_of
     new_sent r e O h =
         subst (λ (c : Envelope). WasSent sent' c (rows_of r)) (sym same_envelope) (rw (O.reads.rows ∙ back_read.1) carried)
@@ -122,13 +121,13 @@ module _ (n : ℕ) (table : List Node) (store : List ℕ) (sent : List Packet) (
             (omega (arith, at_place.0, at_place.1.has_number)) (omega (arith, at_place.1.has_size))
             O.outgoing O.among O.present
 
-        back_read : (read_record n (record_bytes n 0 c rows) ≡ Found c) × (rows_of (record_bytes n 0 c rows) ≡ held_rows c.message n rows)
+        back_read : (read_record n (record_bytes n 0 c rows) ≡ Some c) × (rows_of (record_bytes n 0 c rows) ≡ held_rows c.message n rows)
         back_read =
             let R = reads_back n 0 c rows (omega arith) c_fits (rows_fit rows (node_items_fit step.node F.node_fits)) in
             (R.0, R.1)
 
         same_envelope : e ≡ c
-        same_envelope = let z : Found e ≡ Found c = sym h ∙ O.reads.message n ∙ back_read.0 in cc
+        same_envelope = let z : Some e ≡ Some c = sym h ∙ O.reads.message n ∙ back_read.0 in cc
 
         carried : WasSent sent' c (held_rows c.message n rows)
         carried =

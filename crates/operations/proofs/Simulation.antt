@@ -5,7 +5,6 @@ use mathlib.Core.Path.{◌≡◌, refl, subst}
 use mathlib.Core.List.{List, [], ◌∷◌, Memᴰ}
 use Rattle.item.specs.Maxima.{max_nodes}
 use Rattle.message.specs.declared.Envelope.{Envelope}
-use Rattle.message.specs.declared.Reading.TheVariants.{Found}
 use Rattle.record.specs.Layout.{rows_of}
 use Rattle.record.specs.Record.{read_record}
 use Rattle.store.specs.Records.{records_of, record_in}
@@ -28,6 +27,7 @@ use Rattle.operations.proofs.Inbox.{message_read}
 use Rattle.operations.proofs.Performed.{performed}
 use Rattle.operations.proofs.Represents.{Represents, Simulated, network_of}
 use Rattle.operations.proofs.Start.{SetUpTo, set_up_is, first_represents}
+use Rattle.std.specs.Prelude.{Some}
 
 -- the calls from a table and store that represent a network, and what they leave
 record RunFrom (n : ℕ) (net : Network) (calls : List Call) (result : Result) : Type 0 where
@@ -50,10 +50,10 @@ run_from n fits (e ∷ events) t result sent G S =
 
 -- a message in the store was sent
 in_store : (n : ℕ) (table : List Node) (store : List ℕ) (sent : List Packet) → Represents n table store sent → (r : ℕ) (e : Envelope)
-    → message_in (records_of store) r ≡ Found e → Memᴰ (record { envelope = e; rows = rows_of (record_in (records_of store) r) }) sent
+    → message_in (records_of store) r ≡ Some e → Memᴰ (record { envelope = e; rows = rows_of (record_in (records_of store) r) }) sent
 in_store n table store sent S r e h =
     let M = message_read (records_of store) r e h in
-    (S.all_sent r M.0 e (subst (λ (i : ℕ). read_record i (record_in (records_of store) r) ≡ Found e) S.store_of.size M.1)).was_sent
+    (S.all_sent r M.0 e (subst (λ (i : ℕ). read_record i (record_in (records_of store) r) ≡ Some e) S.store_of.size M.1)).was_sent
 
 -- what such a run leaves
 leaves : (n : ℕ) (calls : List Call) (result : Result) → RunFrom n (network_of (fresh_table n) []) calls result → NetworkRun n calls result

@@ -1,12 +1,10 @@
 -- The seven operations over a table and a store of any length and content (document 01, Operations): the answer, and the
 -- table and the store afterwards. Refusals come in document 01's order: first 2, 3 and 4, then those of the node's own
 -- decision, and 7 last.
-use Rattle.std.specs.Prelude.{ℕ, cond, ◌&&◌, List, ltb, eqb, length, set}
+use Rattle.std.specs.Prelude.{ℕ, cond, ◌&&◌, List, ltb, eqb, length, set, None, Option, Some}
 use Rattle.item.specs.Maxima.{valid_size}
 use Rattle.message.specs.declared.Outgoing.{Outgoing}
 use Rattle.record.specs.Layout.{rows_of}
-use Rattle.message.specs.declared.Reading.{Reading}
-use Rattle.message.specs.declared.Reading.TheVariants.{Found, Fault}
 use Rattle.store.specs.Records.{record_count, right_length, records_of, joined, record_in}
 use Rattle.store.specs.Head.{group_size}
 use Rattle.store.specs.Sound.{sound_records, free_count, message_in}
@@ -25,6 +23,7 @@ use Rattle.protocol.specs.declared.Node.{Node}
 use Rattle.protocol.specs.declared.Refusal.{Refusal}
 use Rattle.protocol.specs.declared.Refusal.TheVariants.{GroupSize, StoreLength, Unsound, NoNode, NoRoom, NoMessage}
 use Rattle.protocol.specs.declared.Step.{Step}
+use Rattle.message.specs.declared.Envelope.{Envelope}
 
 -- "Each operation's result, table and store"
 pub record Result : Type 0 where
@@ -69,15 +68,15 @@ at_node decide k table store rs =
     cond (ltb k (group_size rs)) (carried_out table store rs k k (decide (node_at table k))) (refuse NoNode table store)
 
 -- Drop (record). "8: not on an inbox chain."
-unfoldable pub dropped : Reading → ℕ → List Node → List ℕ → List (List ℕ) → Result
-dropped Fault r table store rs = refuse NoMessage table store
-dropped (Found e) r table store rs =
+unfoldable pub dropped : Option Envelope → ℕ → List Node → List ℕ → List (List ℕ) → Result
+dropped None r table store rs = refuse NoMessage table store
+dropped (Some e) r table store rs =
     record { answer = answer.Ok; table = table; store = joined (drop_in rs e.addressee r) }
 
 -- Deliver (record). "8 as above. The message stays and may be delivered again."
-unfoldable pub delivered : Reading → ℕ → List Node → List ℕ → List (List ℕ) → Result
-delivered Fault r table store rs = refuse NoMessage table store
-delivered (Found e) r table store rs =
+unfoldable pub delivered : Option Envelope → ℕ → List Node → List ℕ → List (List ℕ) → Result
+delivered None r table store rs = refuse NoMessage table store
+delivered (Some e) r table store rs =
     carried_out table store rs e.addressee e.sender
     (deliver_step (node_at table e.addressee) e (rows_of (record_in rs r)))
 

@@ -1,9 +1,7 @@
 -- Runs (document 01, Runs and returns): "A run is an accepted Set up, for any valid n, and then any list of Write, Retry,
 -- Crash, Start, Drop and Deliver .. with any arguments. Refused calls stand in the list too. .. The first call gets table
 -- and store as Set up left them, each later one as the call before left them".
-use Rattle.std.specs.Prelude.{ℕ, List, [], ◌∷◌}
-use Rattle.message.specs.declared.Reading.{Reading}
-use Rattle.message.specs.declared.Reading.TheVariants.{Fault}
+use Rattle.std.specs.Prelude.{ℕ, List, [], ◌∷◌, None, Option}
 use Rattle.store.specs.Records.{records_of}
 use Rattle.store.specs.Sound.{message_in}
 use Rattle.operations.specs.Operation.{Result, perform}
@@ -11,14 +9,15 @@ pub use Rattle.protocol.specs.Call.{Call}
 use Rattle.protocol.specs.declared.Event.{Event}
 use Rattle.protocol.specs.declared.Event.TheVariants as event
 use Rattle.protocol.specs.declared.Node.{Node}
+use Rattle.message.specs.declared.Envelope.{Envelope}
 
 -- the message that an event delivers
-unfoldable pub delivered_by : Event → List ℕ → Reading
-delivered_by (event.Write k tag) store = Fault
-delivered_by (event.Retry k) store = Fault
-delivered_by (event.Crash k) store = Fault
-delivered_by (event.Start k) store = Fault
-delivered_by (event.Drop r) store = Fault
+unfoldable pub delivered_by : Event → List ℕ → Option Envelope
+delivered_by (event.Write k tag) store = None
+delivered_by (event.Retry k) store = None
+delivered_by (event.Crash k) store = None
+delivered_by (event.Start k) store = None
+delivered_by (event.Drop r) store = None
 delivered_by (event.Deliver r) store = message_in (records_of store) r
 
 unfoldable pub call_of : Event → List Node → List ℕ → Call

@@ -1,9 +1,8 @@
 -- Every run over table and store is a run of the network (crate `protocol`), told by the same calls. So what is true of the
 -- calls of all network runs, and of the nodes that they leave, is true of runs over table and store.
-use Rattle.std.specs.Prelude.{ℕ, ◌≡◌}
+use Rattle.std.specs.Prelude.{ℕ, ◌≡◌, Some}
 use mathlib.Core.List.{List, Memᴰ}
 use Rattle.message.specs.declared.Envelope.{Envelope}
-use Rattle.message.specs.declared.Reading.TheVariants.{Found}
 use Rattle.record.specs.Layout.{rows_of}
 use Rattle.store.specs.Records.{records_of, record_in}
 use Rattle.store.specs.Sound.{message_in}
@@ -21,7 +20,7 @@ pub record NetworkRun (n : ℕ) (calls : List Call) (result : Result) : Type 0 w
   pub net : Network
   pub run : Run (fresh_network n) calls net
   pub same_nodes : net.nodes ≡ result.table
-  pub all_sent : (r : ℕ) (e : Envelope) → message_in (records_of result.store) r ≡ Found e
+  pub all_sent : (r : ℕ) (e : Envelope) → message_in (records_of result.store) r ≡ Some e
       → Memᴰ (record { envelope = e; rows = rows_of (record_in (records_of result.store) r) }) net.sent
 
 -- for every set-up that was accepted and every list of events after it

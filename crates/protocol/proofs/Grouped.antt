@@ -15,7 +15,6 @@ use borrow.Author.Tests.{ltb-true, eqb-true, eqb-false, not-true}
 use Rattle.item.specs.Maxima.{max_nodes}
 use Rattle.item.specs.Tests.{and_left, and_right}
 use Rattle.message.specs.declared.Outgoing.{Outgoing}
-use Rattle.message.specs.declared.Reading.{Reading}
 use Rattle.protocol.specs.Network.{Packet, Network, packet_of, packets_of, network_after, Decides, writes, retries, crashes, starts, delivers, Next, host_refuses, node_refuses, drops, acts, fresh_network}
 use Rattle.protocol.specs.Node.{fresh_node, row_items}
 use Rattle.protocol.specs.Outgoing.{goes_to, outgoing, outgoing_to}
@@ -30,6 +29,8 @@ use Rattle.protocol.proofs.InView.{Placed}
 use Rattle.protocol.proofs.Packets.{each_packet, held_length}
 use Rattle.protocol.proofs.Placed.{fresh_placed, BackToOther, PlacedStep, write_placed, retry_placed, crash_placed, start_placed, deliver_placed}
 use Rattle.protocol.proofs.Sending.{outgoing_from_lem}
+use Rattle.std.specs.Prelude.{Option}
+use Rattle.message.specs.declared.Envelope.{Envelope}
 
 -- a packet from one node of a group of n to another
 pub record Addressed (n : ℕ) (l : Packet) : Type 0 where
@@ -71,7 +72,7 @@ module _ (n k back : ℕ) (node : Node) (p : Placed n k node) where
 
 module _ (n : ℕ) (net : Network) (G : Grouped n net) where
   -- the node that decides, its place and the place of what it decides
-  pub deciding_place : {e : Event} {m : Reading} {k back : ℕ} {step : Step} → Decides net e m k back step → (k < n) × PlacedStep n k back step
+  pub deciding_place : {e : Event} {m : Option Envelope} {k back : ℕ} {step : Step} → Decides net e m k back step → (k < n) × PlacedStep n k back step
   deciding_place (writes k tag h) = let b : k < n = omega (arith, G.count) in (b, write_placed n k _ (G.placed k b) tag)
   deciding_place (retries k h) = let b : k < n = omega (arith, G.count) in (b, retry_placed n k _ (G.placed k b))
   deciding_place (crashes k h) = let b : k < n = omega (arith, G.count) in (b, crash_placed n k _ (G.placed k b))

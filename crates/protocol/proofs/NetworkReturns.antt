@@ -7,7 +7,6 @@ use mathlib.Core.Bool.{false≢true}
 use mathlib.Core.List.{List}
 use borrow.Author.Tests.{eqb-true}
 use Rattle.item.specs.declared.Item.{Item}
-use Rattle.message.specs.declared.Reading.{Reading}
 use Rattle.returns.specs.History.{returns, May}
 use Rattle.returns.specs.View.{clash}
 use Rattle.protocol.specs.Call.{Call, is_to}
@@ -21,6 +20,8 @@ use Rattle.protocol.proofs.Grouped.{Grouped}
 use Rattle.protocol.proofs.InView.{odd_size, size_fits}
 use Rattle.protocol.proofs.Reached.{Known, Reached, call_allowed, reached_call}
 use Rattle.protocol.proofs.Told.{told_by, refused_not_accepted, told_returns}
+use Rattle.std.specs.Prelude.{Option}
+use Rattle.message.specs.declared.Envelope.{Envelope}
 
 -- the node that returns is one of the group
 returned_below : (n x : ℕ) (item : Item) {net net' : Network} {call : Call} → Grouped n net → Next net call net' → ReturnsWith x item call → x < n
@@ -30,7 +31,7 @@ returned_below n x item G (node_refuses {step = step} d a) R = refused_not_accep
 returned_below n x item G (drops r) R = let a = R.accepted in clash (cc)
 returned_below n x item {net = net} G (acts d z) R = go d R
   where
-    go : {e : Event} {m : Reading} {k back : ℕ} {step : Step} → Decides net e m k back step
+    go : {e : Event} {m : Option Envelope} {k back : ℕ} {step : Step} → Decides net e m k back step
         → ReturnsWith x item (record { event = e; answer = step.answer; message = m }) → x < n
     go (writes k tag b) R = absurd (false≢true R.at_x)
     go (retries k b) R = absurd (false≢true R.at_x)

@@ -8,7 +8,6 @@ use lib.Dec.{eqb}
 use borrow.Author.Tests.{eq-eqb}
 use Rattle.item.specs.Tests.{by_cond}
 use Rattle.message.specs.declared.Envelope.{Envelope}
-use Rattle.message.specs.declared.Reading.{Reading}
 use Rattle.protocol.specs.Answer.{refusal_number, by_decision}
 use Rattle.protocol.specs.Deliver.{deliver_step}
 use Rattle.protocol.specs.Network.{Network, Decides, writes, retries, crashes, starts, delivers, NodeRefusals}
@@ -18,6 +17,7 @@ use Rattle.protocol.specs.declared.Refusal.{Refusal}
 use Rattle.protocol.specs.declared.Refusal.TheVariants.{GroupSize, StoreLength, Unsound, NoNode, WrongStage, AtLargest, NoRoom, NoMessage, NotTaken, Stale, Counted, LowerRank, OtherTag}
 use Rattle.protocol.specs.declared.Step.{Step}
 use Rattle.protocol.proofs.Deciding.{holds, RefusesBy, of_node, of_message, wider, write_refuses, retry_refuses, crash_refuses, start_refuses, on_message_refuses}
+use Rattle.std.specs.Prelude.{Option}
 
 -- a number that is in a list is found there
 listed : (numbers : List ℕ) (k : ℕ) → Memᴰ k numbers → holds k numbers ≡ true
@@ -44,7 +44,7 @@ number_of_decision Counted m = refl
 number_of_decision LowerRank m = refl
 number_of_decision OtherTag m = refl
 
-decision_refuses : {net : Network} {e : Event} {m : Reading} {k back : ℕ} (step : Step) → Decides net e m k back step → RefusesBy of_decision step
+decision_refuses : {net : Network} {e : Event} {m : Option Envelope} {k back : ℕ} (step : Step) → Decides net e m k back step → RefusesBy of_decision step
 unfolding deliver_step
 decision_refuses {net} step (writes k tag b) = wider of_node of_decision refl step (write_refuses (node_at net.nodes k) tag)
 decision_refuses {net} step (retries k b) = wider of_node of_decision refl step (retry_refuses (node_at net.nodes k))

@@ -8,8 +8,6 @@ use lib.ListN.{set}
 use lib.Seq.{get_or-set_same, get_or-set_other}
 use Rattle.item.specs.Maxima.{max_nodes}
 use Rattle.message.specs.declared.Outgoing.{Outgoing}
-use Rattle.message.specs.declared.Reading.{Reading}
-use Rattle.message.specs.declared.Reading.TheVariants.{Fault}
 use Rattle.returns.specs.Change.{Change, MaySend, same, did_at}
 use Rattle.returns.specs.Change as relation
 use Rattle.returns.specs.History.{Note, quiet}
@@ -34,6 +32,8 @@ use Rattle.protocol.proofs.Packets.{seen_packets, append_seen, packet_seen, each
 use Rattle.protocol.proofs.Placed.{PlacedStep}
 use Rattle.protocol.proofs.Seen.{seen, Tied}
 use Rattle.protocol.proofs.Told.{told, told_by, told_refused}
+use Rattle.std.specs.Prelude.{None, Option}
+use Rattle.message.specs.declared.Envelope.{Envelope}
 
 abbrev pub shown : ℕ → Network → View
 shown x net = record { node = λ p. seen x (node_at net.nodes p); sent = seen_packets x net.sent }
@@ -43,12 +43,12 @@ module _ (f n x : ℕ) (odd : n ≡ suc (f + f)) (fits : n ≤ max_nodes) (x_bel
   in_view k h = record { size = odd; fits = fits; x_below = x_below; k_below = h; placed = G.placed k h; view = refl }
 
   -- every decision is one that the relation allows
-  decision_tied : {e : Event} {m : Reading} {k back : ℕ} {step : Step} → Decides net e m k back step → is_refused step.answer ≡ false
+  decision_tied : {e : Event} {m : Option Envelope} {k back : ℕ} {step : Step} → Decides net e m k back step → is_refused step.answer ≡ false
       → Tied f x (shown x net) (told x e m step.answer) k back step
   unfolding is_ok
   decision_tied (writes k tag h) a =
       let node : Node = node_at net.nodes k in
-      subst (λ (b : Answer). Tied f x (shown x net) (told x (event.Write k tag) Fault b) k k (write_step node tag))
+      subst (λ (b : Answer). Tied f x (shown x net) (told x (event.Write k tag) None b) k k (write_step node tag))
       (sym (write_answers_ok node tag a)) (write_tied tag (in_view k (omega (arith, G.count))) a)
   decision_tied (retries k h) a = retry_tied (in_view k (omega (arith, G.count))) a
   decision_tied (crashes k h) a = crash_tied (in_view k (omega (arith, G.count))) a

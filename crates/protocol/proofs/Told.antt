@@ -10,8 +10,6 @@ use lib.Dec.{eqb}
 use Rattle.item.specs.Item.{item_above}
 use Rattle.item.specs.declared.Item.{Item}
 use Rattle.item.specs.declared.Tag.{Tag}
-use Rattle.message.specs.declared.Reading.{Reading}
-use Rattle.message.specs.declared.Reading.TheVariants.{Found, Fault}
 use Rattle.returns.specs.History.{Note, quiet, begins, settles, returns, History, after_note}
 use Rattle.returns.specs.View.{clash}
 use Rattle.protocol.specs.Answer.{is_refused}
@@ -25,16 +23,18 @@ use Rattle.protocol.specs.declared.Event.TheVariants as event
 use Rattle.protocol.specs.declared.Refusal.{Refusal}
 use Rattle.protocol.specs.declared.Step.{Step}
 use Rattle.protocol.proofs.Seen.{note_of}
+use Rattle.std.specs.Prelude.{None, Option, Some}
+use Rattle.message.specs.declared.Envelope.{Envelope}
 
 -- what an event, the message that it delivers and its answer tell of x
-abbrev pub told : ℕ → Event → Reading → Answer → Note
+abbrev pub told : ℕ → Event → Option Envelope → Answer → Note
 told x (event.Write k tag) m a = cond (is_ok a) (cond (eqb k x) (begins tag) quiet) quiet
 told x (event.Retry k) m a = quiet
 told x (event.Crash k) m a = quiet
 told x (event.Start k) m a = quiet
 told x (event.Drop r) m a = quiet
-told x (event.Deliver r) Fault a = quiet
-told x (event.Deliver r) (Found e) a = note_of x e.addressee a
+told x (event.Deliver r) None a = quiet
+told x (event.Deliver r) (Some e) a = note_of x e.addressee a
 
 -- what a call tells of x
 abbrev pub told_by : ℕ → Call → Note
@@ -49,17 +49,17 @@ refused_why (answer.Accepted i) e = absurd (false≢true e)
 refused_why (answer.Stopped r) e = absurd (false≢true e)
 refused_why (answer.Refused why) e = (why, refl)
 
-quiet_refusal : (x : ℕ) (e : Event) (m : Reading) (why : Refusal) → told x e m (answer.Refused why) ≡ quiet
+quiet_refusal : (x : ℕ) (e : Event) (m : Option Envelope) (why : Refusal) → told x e m (answer.Refused why) ≡ quiet
 unfolding is_ok
 quiet_refusal x (event.Write k tag) m why = refl
 quiet_refusal x (event.Retry k) m why = refl
 quiet_refusal x (event.Crash k) m why = refl
 quiet_refusal x (event.Start k) m why = refl
 quiet_refusal x (event.Drop r) m why = refl
-quiet_refusal x (event.Deliver r) Fault why = refl
-quiet_refusal x (event.Deliver r) (Found e) why = refl
+quiet_refusal x (event.Deliver r) None why = refl
+quiet_refusal x (event.Deliver r) (Some e) why = refl
 
-pub told_refused : (x : ℕ) (e : Event) (m : Reading) (a : Answer) → is_refused a ≡ true → told x e m a ≡ quiet
+pub told_refused : (x : ℕ) (e : Event) (m : Option Envelope) (a : Answer) → is_refused a ≡ true → told x e m a ≡ quiet
 told_refused x e m a r =
     let w = refused_why a r in
     subst (λ (b : Answer). told x e m b ≡ quiet) (sym w.1) (quiet_refusal x e m w.0)
@@ -98,7 +98,7 @@ begun_last h tag true true = refl
 begun_last h tag true false = refl
 begun_last h tag false u = refl
 
-refused_last : (x : ℕ) (e : Event) (m : Reading) (a : Answer) → is_refused a ≡ true → (h : History)
+refused_last : (x : ℕ) (e : Event) (m : Option Envelope) (a : Answer) → is_refused a ≡ true → (h : History)
     → (after_note h (told x e m a)).last ≡ cond (is_to x m) (item_after a h.last) h.last
 unfolding item_after
 refused_last x e m a r h =
@@ -114,7 +114,7 @@ told_last x (node_refuses {e = e} {m = m} {step = step} d a) h = refused_last x 
 told_last x (drops r) h = refl
 told_last x {net = net} (acts d z) h = go d
   where
-    go : {e : Event} {m : Reading} {k back : ℕ} {step : Step} → Decides net e m k back step
+    go : {e : Event} {m : Option Envelope} {k back : ℕ} {step : Step} → Decides net e m k back step
         → (after_note h (told x e m step.answer)).last ≡ last_after x (record { event = e; answer = step.answer; message = m }) h.last
     go {step = step} (writes k tag b) = begun_last h tag (is_ok step.answer) (eqb k x)
     go (retries k b) = refl
@@ -160,7 +160,7 @@ told_begun x (node_refuses {e = e} {m = m} {step = step} d a) h item j =
 told_begun x (drops r) h item j = inl j
 told_begun x {net = net} (acts d z) h item j = go d j
   where
-    go : {e : Event} {m : Reading} {k back : ℕ} {step : Step} → Decides net e m k back step
+    go : {e : Event} {m : Option Envelope} {k back : ℕ} {step : Step} → Decides net e m k back step
         → Memᴰ item (after_note h (told x e m step.answer)).begun → Memᴰ item h.begun ⊎ Memᴰ item (begun_at x e step.answer h.last)
     go {step = step} (writes k tag b) i = write_begun h tag item (is_ok step.answer) (eqb k x) i
     go (retries k b) i = inl i
@@ -178,7 +178,7 @@ told_returns x (node_refuses {step = step} d a) item R = refused_not_accepted st
 told_returns x (drops r) item R = let a = R.accepted in clash (cc)
 told_returns x {net = net} (acts d z) item R = go d R
   where
-    go : {e : Event} {m : Reading} {k back : ℕ} {step : Step} → Decides net e m k back step
+    go : {e : Event} {m : Option Envelope} {k back : ℕ} {step : Step} → Decides net e m k back step
         → ReturnsWith x item (record { event = e; answer = step.answer; message = m }) → told x e m step.answer ≡ returns item
     go (writes k tag b) R = absurd (false≢true R.at_x)
     go (retries k b) R = absurd (false≢true R.at_x)

@@ -1,25 +1,24 @@
 -- The calls of a run (document 01, Runs and returns): its words "are read off the calls, their answers and the messages
 -- delivered".
-use Rattle.std.specs.Prelude.{ℕ, Bool, true, false, cond, List, [], ◌∷◌, ◌++◌, eqb}
+use Rattle.std.specs.Prelude.{ℕ, Bool, true, false, cond, List, [], ◌∷◌, ◌++◌, eqb, None, Option, Some}
 use Rattle.item.specs.Item.{zero_item, item_above}
 use Rattle.item.specs.declared.Item.{Item}
-use Rattle.message.specs.declared.Reading.{Reading}
-use Rattle.message.specs.declared.Reading.TheVariants.{Found, Fault}
 use Rattle.protocol.specs.declared.Answer.{Answer}
 use Rattle.protocol.specs.declared.Answer.TheVariants as answer
 use Rattle.protocol.specs.declared.Event.{Event}
 use Rattle.protocol.specs.declared.Event.TheVariants as event
+use Rattle.message.specs.declared.Envelope.{Envelope}
 
 -- one call of the list: what was called, what it answered, and the message that it delivered, if any
 pub record Call : Type 0 where
   pub event : Event
   pub answer : Answer
-  pub message : Reading
+  pub message : Option Envelope
 
 -- "the node meant is the addressee of the message delivered"
-unfoldable pub is_to : ℕ → Reading → Bool
-is_to x Fault = false
-is_to x (Found e) = eqb e.addressee x
+unfoldable pub is_to : ℕ → Option Envelope → Bool
+is_to x None = false
+is_to x (Some e) = eqb e.addressee x
 
 -- the item of an answer "settled" or "accepted" at node x, else the item before
 unfoldable pub item_after : Answer → Item → Item

@@ -1,14 +1,12 @@
 -- The nodes of a group on a network, each on a machine of its own: no table, no store and no bytes. A run is told by the same
 -- calls as a run over a store (`Call`): what was called, what it answered, what was delivered.
-use Rattle.std.specs.Prelude.{ℕ, ◌<◌, ◌≡◌, true, false, cond, length, set}
+use Rattle.std.specs.Prelude.{ℕ, ◌<◌, ◌≡◌, true, false, cond, length, set, None, Option, Some}
 use mathlib.Core.List.{List, [], ◌∷◌, ◌++◌, Memᴰ}
 use Rattle.item.specs.declared.Item.{Item}
 use Rattle.item.specs.declared.Tag.{Tag}
 use Rattle.message.specs.Rows.{held_rows}
 use Rattle.message.specs.declared.Envelope.{Envelope}
 use Rattle.message.specs.declared.Outgoing.{Outgoing}
-use Rattle.message.specs.declared.Reading.{Reading}
-use Rattle.message.specs.declared.Reading.TheVariants.{Found, Fault}
 use Rattle.protocol.specs.Answer.{is_refused, by_decision}
 use Rattle.protocol.specs.Call.{Call}
 use Rattle.protocol.specs.Deliver.{deliver_step}
@@ -57,32 +55,32 @@ network_after net k back step =
 -- The decision of node k on an event, with the message that the event delivers and its sender `back`. Any message that was
 -- ever sent may be delivered, at any time, any number of times ("The message stays and may be delivered again") or never: so
 -- messages are lost, repeated, delayed and overtaken, and there is no bound on those under way. r may be any number.
-pub data Decides (net : Network) : Event → Reading → (k back : ℕ) → Step → Type 0 where
+pub data Decides (net : Network) : Event → Option Envelope → (k back : ℕ) → Step → Type 0 where
   writes : (k : ℕ) (tag : Tag) → k < length net.nodes
-      → Decides net (event.Write k tag) Fault k k (write_step (node_at net.nodes k) tag)
-  retries : (k : ℕ) → k < length net.nodes → Decides net (event.Retry k) Fault k k (retry_step (node_at net.nodes k))
-  crashes : (k : ℕ) → k < length net.nodes → Decides net (event.Crash k) Fault k k (crash_step (node_at net.nodes k))
-  starts : (k : ℕ) → k < length net.nodes → Decides net (event.Start k) Fault k k (start_step (node_at net.nodes k))
+      → Decides net (event.Write k tag) None k k (write_step (node_at net.nodes k) tag)
+  retries : (k : ℕ) → k < length net.nodes → Decides net (event.Retry k) None k k (retry_step (node_at net.nodes k))
+  crashes : (k : ℕ) → k < length net.nodes → Decides net (event.Crash k) None k k (crash_step (node_at net.nodes k))
+  starts : (k : ℕ) → k < length net.nodes → Decides net (event.Start k) None k k (start_step (node_at net.nodes k))
   delivers : (r : ℕ) (p : Packet) → Memᴰ p net.sent
-      → Decides net (event.Deliver r) (Found p.envelope) p.envelope.addressee p.envelope.sender
+      → Decides net (event.Deliver r) (Some p.envelope) p.envelope.addressee p.envelope.sender
       (deliver_step (node_at net.nodes p.envelope.addressee) p.envelope p.rows)
 
 -- One call. Refusals 5, 6 and 9 to 13 come from the node's decision alone. With the others, which are the host's and the
 -- store's, any call may be refused at any time. A refusal changes nothing, and neither does a Drop: a message that was sent
 -- need never be delivered.
 pub data Next (net : Network) : Call → Network → Type 0 where
-  host_refuses : (e : Event) (m : Reading) (why : Refusal) → by_decision why ≡ false
+  host_refuses : (e : Event) (m : Option Envelope) (why : Refusal) → by_decision why ≡ false
       → Next net (record { event = e; answer = answer.Refused why; message = m }) net
-  node_refuses : {e : Event} {m : Reading} {k back : ℕ} {step : Step} → Decides net e m k back step → is_refused step.answer ≡ true
+  node_refuses : {e : Event} {m : Option Envelope} {k back : ℕ} {step : Step} → Decides net e m k back step → is_refused step.answer ≡ true
       → Next net (record { event = e; answer = step.answer; message = m }) net
-  drops : (r : ℕ) → Next net (record { event = event.Drop r; answer = answer.Ok; message = Fault }) net
-  acts : {e : Event} {m : Reading} {k back : ℕ} {step : Step} → Decides net e m k back step → is_refused step.answer ≡ false
+  drops : (r : ℕ) → Next net (record { event = event.Drop r; answer = answer.Ok; message = None }) net
+  acts : {e : Event} {m : Option Envelope} {k back : ℕ} {step : Step} → Decides net e m k back step → is_refused step.answer ≡ false
       → Next net (record { event = e; answer = step.answer; message = m }) (network_after net k back step)
 
 -- Refusals 5, 6 and 9 to 13 are all that a decision gives, so no refusal is both a node's and the host's.
 unfoldable pub NodeRefusals : Type 0
 NodeRefusals =
-    (net : Network) (e : Event) (m : Reading) (k back : ℕ) (step : Step) → Decides net e m k back step →
+    (net : Network) (e : Event) (m : Option Envelope) (k back : ℕ) (step : Step) → Decides net e m k back step →
     (why : Refusal) → step.answer ≡ answer.Refused why → by_decision why ≡ true
 
 -- ---- runs

@@ -25,16 +25,13 @@ use Rattle.endian.proofs.NumberLaws.{length_bytes, value_bytes, number_again}
 use Rattle.endian.specs.Zero.{zeros, all_zero}
 use Rattle.endian.proofs.ZeroLaws.{both, all_zero_append, all_zero_is}
 use Rattle.record.specs.declared.kinds.Fields.{Fields}
-use Rattle.record.specs.declared.kinds.Known.{Known}
-use Rattle.record.specs.declared.kinds.Known.TheVariants as known
-use Rattle.message.specs.declared.Reading.{Reading}
-use Rattle.message.specs.declared.Reading.TheVariants.{Found, Fault}
 use Rattle.record.specs.Layout.{record_size, kind_at, address_at, incarnation_at, other_at, attempt_at, item_at, rows_at, index_size, row_size, item_bytes, address_byte, field_bytes, rows_bytes, padded, item_in, fields_in, items_in, rows_of, next_of, held_rows}
 use Rattle.record.proofs.LayoutLaws.{length_item, length_fields, length_rows, length_padded}
 use Rattle.record.specs.Kind.{kind_of, other_of, attempt_of, item_of, no_incarnation, filled, fields_of, no_write, message_of, rows_held}
 use Rattle.record.specs.Record.{record_bytes, envelope_of, zero_after_rows, read_as, read_record}
 use Rattle.record.proofs.RecordLaws.{read_found}
 use Rattle.record.specs.RoundTrip.{ItemFits, RowsFit, FieldsFit, Fits, ReadsBack, WritesBack, Differ}
+use Rattle.std.specs.Prelude.{None, Option, Some}
 
 -- ---- reading undoes writing
 
@@ -69,7 +66,7 @@ fields_read next f t h =
     })
 
 -- a kind's fields are a message of this kind again
-message_again : (e : Envelope) (m : Message) → message_of (filled e (kind_of m) (other_of m) (attempt_of m) (item_of m)) ≡ known.Known m
+message_again : (e : Envelope) (m : Message) → message_of (filled e (kind_of m) (other_of m) (attempt_of m) (item_of m)) ≡ Some m
 unfolding message_of kind_of other_of attempt_of item_of no_write same_incarnation same_attempt same_item tags_agree
 message_again e (Store attempt item) = refl
 message_again e (Stored other attempt item) = refl
@@ -177,7 +174,7 @@ reads_back n next e rows hn he hr =
 
 -- ---- different messages have different bytes
 
-found : {e e' : Envelope} → Found e ≡ Found e' → e ≡ e'
+found : {e e' : Envelope} → Some e ≡ Some e' → e ≡ e'
 found p = cc
 
 pub differ : Differ
@@ -200,14 +197,14 @@ no_write_is f e =
 
 module _ (f : Fields) (m : Message) where
   -- if the fields say m, they are m's
-  unfoldable Back : Known → Type 0
-  Back k = k ≡ known.Known m → fields_of (envelope_of f m) ≡ f
+  unfoldable Back : Option Message → Type 0
+  Back k = k ≡ Some m → fields_of (envelope_of f m) ≡ f
 
-  back_known : (m' : Message) → fields_of (envelope_of f m') ≡ f → Back (known.Known m')
+  back_known : (m' : Message) → fields_of (envelope_of f m') ≡ f → Back (Some m')
   unfolding Back
   back_known m' e q = let p : m ≡ m' = cc in ap (λ (x : Message). fields_of (envelope_of f x)) p ∙ e
 
-  back_unknown : Back known.Unknown
+  back_unknown : Back None
   unfolding Back
   back_unknown q = let z : ◌≡◌ {A = ℕ} 0 1 = cc in let w : ⊥ = omega arith in absurd w
 
@@ -217,7 +214,7 @@ module _ (f : Fields) (m : Message) where
 
   -- what the fields say, with these in place of those that were tested
   back_as : (m' : Message) → kind_of m' ≡ f.kind → (other_of m').0 ≡ f.other.0 → (attempt_of m').0 ≡ f.attempt.0
-      → (item_of m').index.0 ≡ f.item.index.0 → (item_of m').tag.0 ≡ f.item.tag.0 → Back (known.Known m')
+      → (item_of m').index.0 ≡ f.item.index.0 → (item_of m').tag.0 ≡ f.item.tag.0 → Back (Some m')
   unfolding fields_of
   back_as m' k o a x t =
       back_known m' (λ i. record {
@@ -259,7 +256,7 @@ module _ (f : Fields) (m : Message) where
       (λ _. back_unknown))))))
 
 -- a message has the fields that it was read from
-pub fields_again : (f : Fields) (m : Message) → message_of f ≡ known.Known m → fields_of (envelope_of f m) ≡ f
+pub fields_again : (f : Fields) (m : Message) → message_of f ≡ Some m → fields_of (envelope_of f m) ≡ f
 unfolding Back
 fields_again f m = all_back f m
 
@@ -267,24 +264,24 @@ fields_again f m = all_back f m
 record ReadAs (n : ℕ) (r : List ℕ) (e : Envelope) : Type 0 where
   message : Message
   long : length r ≡ record_size
-  says : message_of (fields_in r) ≡ known.Known message
+  says : message_of (fields_in r) ≡ Some message
   zeroed : zero_after_rows n message r ≡ true
   is : e ≡ envelope_of (fields_in r) message
 
-read_as_lem : (n : ℕ) (r : List ℕ) (e : Envelope) → read_record n r ≡ Found e → ReadAs n r e
+read_as_lem : (n : ℕ) (r : List ℕ) (e : Envelope) → read_record n r ≡ Some e → ReadAs n r e
 unfolding read_record read_as
 read_as_lem n r e =
-    by_cond (λ (a : Reading). a ≡ Found e → ReadAs n r e) (eqb (length r) record_size) (read_as n (message_of (fields_in r)) r) Fault
+    by_cond (λ (a : Option Envelope). a ≡ Some e → ReadAs n r e) (eqb (length r) record_size) (read_as n (message_of (fields_in r)) r) None
     (λ l. said (message_of (fields_in r)) refl (eqb-true (length r) record_size l))
     (λ l. fault)
   where
-    fault : Fault ≡ Found e → ReadAs n r e
+    fault : None ≡ Some e → ReadAs n r e
     fault q = let z : ◌≡◌ {A = ℕ} 0 1 = cc in let w : ⊥ = omega arith in absurd w
 
-    said : (k : Known) → message_of (fields_in r) ≡ k → length r ≡ record_size → read_as n k r ≡ Found e → ReadAs n r e
-    said known.Unknown s l = fault
-    said (known.Known m) s l =
-        by_cond (λ (a : Reading). a ≡ Found e → ReadAs n r e) (zero_after_rows n m r) (Found (envelope_of (fields_in r) m)) Fault
+    said : (k : Option Message) → message_of (fields_in r) ≡ k → length r ≡ record_size → read_as n k r ≡ Some e → ReadAs n r e
+    said None s l = fault
+    said (Some m) s l =
+        by_cond (λ (a : Option Envelope). a ≡ Some e → ReadAs n r e) (zero_after_rows n m r) (Some (envelope_of (fields_in r) m)) None
         (λ z q. record { message = m; long = l; says = s; zeroed = z; is = found (sym q) })
         (λ z. fault)
 

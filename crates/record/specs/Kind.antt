@@ -1,6 +1,6 @@
 -- The six kinds of message (document 01: "1 Store, 2 Stored, 3 Confirm, 4 Confirmed, 5 Fetch, 6 Table") and which fields
 -- of a record each uses: "'Other' is .. in Store and Fetch 0"; "Fetch and Table have attempt, index and tag 0".
-use Rattle.std.specs.Prelude.{ℕ, Bool, ◌&&◌, cond, eqb}
+use Rattle.std.specs.Prelude.{ℕ, Bool, ◌&&◌, cond, eqb, None, Option, Some}
 use Rattle.item.specs.Counter.{same_incarnation, same_attempt}
 use Rattle.item.specs.Item.{zero_item, same_item}
 use Rattle.item.specs.declared.counters.Incarnation.{Incarnation}
@@ -11,8 +11,6 @@ use Rattle.message.specs.declared.Message.TheVariants.{Store, Stored, Confirm, C
 use Rattle.message.specs.declared.Envelope.{Envelope}
 unfoldable pub use Rattle.message.specs.Rows.{rows_held}
 use Rattle.record.specs.declared.kinds.Fields.{Fields}
-use Rattle.record.specs.declared.kinds.Known.{Known}
-use Rattle.record.specs.declared.kinds.Known.TheVariants as known
 
 abbrev pub store_kind : ℕ
 store_kind = 1
@@ -91,17 +89,17 @@ fields_of e = filled e (kind_of e.message) (other_of e.message) (attempt_of e.me
 unfoldable pub no_write : Attempt → Item → Bool
 no_write attempt item = same_attempt attempt no_attempt && same_item item zero_item
 
-abbrev pub known_if : Bool → Message → Known
-known_if t m = cond t (known.Known m) known.Unknown
+abbrev pub known_if : Bool → Message → Option Message
+known_if t m = cond t (Some m) None
 
 -- the message that fields say. "Unused bytes are zero, and a read that finds otherwise gives a fault"; kind 0 and a kind
 -- above 6 are no message either.
-unfoldable pub message_of : Fields → Known
+unfoldable pub message_of : Fields → Option Message
 message_of f =
     cond (eqb f.kind store_kind) (known_if (same_incarnation f.other no_incarnation) (Store f.attempt f.item))
-    (cond (eqb f.kind stored_kind) (known.Known (Stored f.other f.attempt f.item))
-    (cond (eqb f.kind confirm_kind) (known.Known (Confirm f.other f.attempt f.item))
-    (cond (eqb f.kind confirmed_kind) (known.Known (Confirmed f.other f.attempt f.item))
+    (cond (eqb f.kind stored_kind) (Some (Stored f.other f.attempt f.item))
+    (cond (eqb f.kind confirm_kind) (Some (Confirm f.other f.attempt f.item))
+    (cond (eqb f.kind confirmed_kind) (Some (Confirmed f.other f.attempt f.item))
     (cond (eqb f.kind fetch_kind) (known_if (same_incarnation f.other no_incarnation && no_write f.attempt f.item) Fetch)
     (cond (eqb f.kind table_kind) (known_if (no_write f.attempt f.item) (Table f.other))
-    known.Unknown)))))
+    None)))))

@@ -1,15 +1,11 @@
 -- A whole record (document 01, "Message store"): written, read, and what the chains need of it.
-use Rattle.std.specs.Prelude.{ℕ, ◌+◌, ◌*◌, Bool, ◌&&◌, cond, List, eqb, length, drop}
+use Rattle.std.specs.Prelude.{ℕ, ◌+◌, ◌*◌, Bool, ◌&&◌, cond, List, eqb, length, drop, None, Option, Some}
 use Rattle.item.specs.declared.Item.{Item}
 use Rattle.message.specs.declared.Message.{Message}
 use Rattle.message.specs.declared.Envelope.{Envelope}
 use Rattle.endian.specs.Number.{with_number}
 use Rattle.endian.specs.Zero.{zeros, all_zero}
 use Rattle.record.specs.declared.kinds.Fields.{Fields}
-use Rattle.record.specs.declared.kinds.Known.{Known}
-use Rattle.record.specs.declared.kinds.Known.TheVariants as known
-use Rattle.message.specs.declared.Reading.{Reading}
-use Rattle.message.specs.declared.Reading.TheVariants.{Found, Fault}
 use Rattle.record.specs.Layout.{record_size, rows_at, row_size, next_at, kind_at, fields_in, layout_bytes}
 use Rattle.record.specs.Kind.{fields_of, message_of, rows_held}
 pub use Rattle.record.specs.Layout.{held_rows}
@@ -26,14 +22,14 @@ envelope_of f m = record { sender = f.sender; addressee = f.addressee; incarnati
 unfoldable pub zero_after_rows : ℕ → Message → List ℕ → Bool
 zero_after_rows n m r = all_zero (drop (rows_at + rows_held m n * row_size) r)
 
-unfoldable pub read_as : ℕ → Known → List ℕ → Reading
-read_as n known.Unknown r = Fault
-read_as n (known.Known m) r = cond (zero_after_rows n m r) (Found (envelope_of (fields_in r) m)) Fault
+unfoldable pub read_as : ℕ → Option Message → List ℕ → Option Envelope
+read_as n None r = None
+read_as n (Some m) r = cond (zero_after_rows n m r) (Some (envelope_of (fields_in r) m)) None
 
 -- what a record says in a group of n: "a read that finds otherwise gives a fault, not a message". Sender, addressee and
 -- next are not judged here.
-unfoldable pub read_record : ℕ → List ℕ → Reading
-read_record n r = cond (eqb (length r) record_size) (read_as n (message_of (fields_in r)) r) Fault
+unfoldable pub read_record : ℕ → List ℕ → Option Envelope
+read_record n r = cond (eqb (length r) record_size) (read_as n (message_of (fields_in r)) r) None
 
 -- the record with another next
 unfoldable pub with_next : List ℕ → ℕ → List ℕ

@@ -1,12 +1,11 @@
 -- Reading undoes writing, writing undoes reading, and different messages have different bytes: for every kind, group,
 -- number and row.
-use Rattle.std.specs.Prelude.{ℕ, ◌^◌, ◌<◌, ◌≡◌, List, [], ◌∷◌}
+use Rattle.std.specs.Prelude.{ℕ, ◌^◌, ◌<◌, ◌≡◌, List, [], ◌∷◌, Some}
 use Rattle.item.specs.Maxima.{tag_size}
 use Rattle.item.specs.declared.Item.{Item}
 use Rattle.message.specs.declared.Envelope.{Envelope}
 use Rattle.endian.specs.Number.{AreBytes}
 use Rattle.record.specs.declared.kinds.Fields.{Fields}
-use Rattle.message.specs.declared.Reading.TheVariants.{Found}
 use Rattle.record.specs.Layout.{index_size, rows_of, next_of, held_rows}
 use Rattle.record.specs.Kind.{fields_of}
 use Rattle.record.specs.Record.{record_bytes, read_record}
@@ -32,14 +31,14 @@ Fits e = FieldsFit (fields_of e)
 unfoldable pub ReadsBack : Type 0
 ReadsBack =
     (n next : ℕ) (e : Envelope) (rows : List Item) → next < 256 ^ 2 → Fits e → RowsFit rows →
-    (read_record n (record_bytes n next e rows) ≡ Found e) ×
+    (read_record n (record_bytes n next e rows) ≡ Some e) ×
     (rows_of (record_bytes n next e rows) ≡ held_rows e.message n rows) ×
     (next_of (record_bytes n next e rows) ≡ next)
 
 -- writing what was read gives the bytes back, next and the address byte included
 unfoldable pub WritesBack : Type 0
 WritesBack =
-    (n : ℕ) (r : List ℕ) (e : Envelope) → AreBytes r → read_record n r ≡ Found e → record_bytes n (next_of r) e (rows_of r) ≡ r
+    (n : ℕ) (r : List ℕ) (e : Envelope) → AreBytes r → read_record n r ≡ Some e → record_bytes n (next_of r) e (rows_of r) ≡ r
 
 -- different messages have different bytes: equal bytes are of one message, with one next and the same rows
 unfoldable pub Differ : Type 0

@@ -1,7 +1,6 @@
 // The six kinds of message as numbers in a record, and the fields of one. A message is read from fields in `record_read`, and
 // its fields and rows are made in `record_write`.
 use item::{Attempt, Incarnation, Item};
-use message::Message;
 
 // The number of each kind.
 pub const STORE: u8 = 1;
@@ -26,12 +25,4 @@ pub struct Fields {
     pub other: Incarnation,
     pub attempt: Attempt,
     pub item: Item,
-}
-
-// The message that fields say.
-#[derive(Clone, Copy)]
-pub enum Known {
-    Known(Message),
-    // No kind of this number, or a field that the kind does not use and that is not 0.
-    Unknown,
 }

@@ -1,17 +1,16 @@
 -- A readable record (document 01, "Message store"): "unused bytes are zero, and a read that finds otherwise gives a fault,
 -- not a message".
-use Rattle.std.specs.Prelude.{ℕ, min, ◌+◌, ◌*◌, Bool, true, false, cond, ◌&&◌, List, eqb, length, get_or, drop}
+use Rattle.std.specs.Prelude.{ℕ, min, ◌+◌, ◌*◌, Bool, true, false, cond, ◌&&◌, List, eqb, length, get_or, drop, None, Option, Some}
 use Rattle.item.specs.Maxima.{max_nodes}
 use Rattle.endian.specs.Zero.{all_zero}
 use Rattle.record.specs.Kind.{table_kind}
 use Rattle.record.specs.Layout.{record_size, kind_at, rows_at, row_size}
 use Rattle.record.specs.Record.{read_record}
-use Rattle.message.specs.declared.Reading.{Reading}
-use Rattle.message.specs.declared.Reading.TheVariants.{Found, Fault}
+use Rattle.message.specs.declared.Envelope.{Envelope}
 
-unfoldable pub is_found : Reading → Bool
-is_found Fault = false
-is_found (Found e) = true
+unfoldable pub is_found : Option Envelope → Bool
+is_found None = false
+is_found (Some e) = true
 
 -- whether the bytes of a record are a message in a group of n
 unfoldable pub readable : ℕ → List ℕ → Bool

@@ -20,14 +20,12 @@ use Rattle.endian.proofs.NumberLaws.{length_bytes, length_with_number, number_of
 use Rattle.endian.specs.Zero.{zeros, all_zero}
 use Rattle.endian.proofs.ZeroLaws.{length_zeros, zeros_are_zero}
 use Rattle.record.specs.declared.kinds.Fields.{Fields}
-use Rattle.record.specs.declared.kinds.Known.{Known}
-use Rattle.record.specs.declared.kinds.Known.TheVariants as known
-use Rattle.message.specs.declared.Reading.{Reading}
-use Rattle.message.specs.declared.Reading.TheVariants.{Found, Fault}
 use Rattle.record.specs.Layout.{record_size, next_at, kind_at, address_at, incarnation_at, other_at, attempt_at, item_at, rows_at, row_size, index_size, item_in, items_in, fields_in, rows_of, next_of}
 use Rattle.record.specs.Kind.{message_of, rows_held}
 use Rattle.message.specs.declared.Envelope.{Envelope}
 use Rattle.record.specs.Record.{record_bytes, read_as, read_record, envelope_of, zero_after_rows, zero_after_next, with_next, no_record}
+use Rattle.std.specs.Prelude.{None, Option, Some}
+use Rattle.message.specs.declared.Message.{Message}
 
 -- ---- a number written
 
@@ -123,41 +121,41 @@ module _ {r q : List ℕ} (a : Alike r q) where
         item = m j;
       }
 
-  alike_read_as : (n : ℕ) (k : Known) → read_as n k r ≡ read_as n k q
+  alike_read_as : (n : ℕ) (k : Option Message) → read_as n k r ≡ read_as n k q
   unfolding read_as zero_after_rows
-  alike_read_as n known.Unknown = refl
-  alike_read_as n (known.Known m) =
+  alike_read_as n None = refl
+  alike_read_as n (Some m) =
       let z : drop (rows_at + rows_held m n * row_size) r ≡ drop (rows_at + rows_held m n * row_size) q = alike_drop (rows_at + rows_held m n * row_size) (omega arith) in
-      λ j. cond (all_zero (z j)) (Found (envelope_of (alike_fields j) m)) Fault
+      λ j. cond (all_zero (z j)) (Some (envelope_of (alike_fields j) m)) None
 
   -- what is read does not depend on next
   pub alike_read : (n : ℕ) → read_record n r ≡ read_record n q
   unfolding read_record
   alike_read n =
-      (λ j. cond (eqb (a.size j) record_size) (read_as n (message_of (alike_fields j)) r) Fault)
-      ∙ ap (λ (x : Reading). cond (eqb (length q) record_size) x Fault) (alike_read_as n (message_of (fields_in q)))
+      (λ j. cond (eqb (a.size j) record_size) (read_as n (message_of (alike_fields j)) r) None)
+      ∙ ap (λ (x : Option Envelope). cond (eqb (length q) record_size) x None) (alike_read_as n (message_of (fields_in q)))
 
 -- ---- a record of kind 0 is no message
 
-message_none : (f : Fields) → f.kind ≡ 0 → message_of f ≡ known.Unknown
+message_none : (f : Fields) → f.kind ≡ 0 → message_of f ≡ None
 unfolding message_of
 message_none f e = rw e
 
-pub kind_none : (n : ℕ) (r : List ℕ) → get_or r kind_at 0 ≡ 0 → read_record n r ≡ Fault
+pub kind_none : (n : ℕ) (r : List ℕ) → get_or r kind_at 0 ≡ 0 → read_record n r ≡ None
 unfolding read_record read_as fields_in
 kind_none n r e =
-    ap (λ (k : Known). cond (eqb (length r) record_size) (read_as n k r) Fault) (message_none (fields_in r) e)
-    ∙ by_cond (λ (x : Reading). x ≡ Fault) (eqb (length r) record_size) Fault Fault (λ _. refl) (λ _. refl)
+    ap (λ (k : Option Message). cond (eqb (length r) record_size) (read_as n k r) None) (message_none (fields_in r) e)
+    ∙ by_cond (λ (x : Option Envelope). x ≡ None) (eqb (length r) record_size) None None (λ _. refl) (λ _. refl)
 
-pub zero_none : (n : ℕ) → read_record n no_record ≡ Fault
+pub zero_none : (n : ℕ) → read_record n no_record ≡ None
 unfolding no_record zeros
 zero_none n = kind_none n no_record refl
 
-pub cleared_none : (n next : ℕ) → read_record n (with_next no_record next) ≡ Fault
+pub cleared_none : (n next : ℕ) → read_record n (with_next no_record next) ≡ None
 cleared_none n next = alike_read (alike_next no_record next) n ∙ zero_none n
 
 -- where there is no record there is no message
-pub nothing_none : (n : ℕ) → read_record n [] ≡ Fault
+pub nothing_none : (n : ℕ) → read_record n [] ≡ None
 nothing_none n = kind_none n [] refl
 
 -- ---- how long a record is

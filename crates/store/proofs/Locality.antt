@@ -18,7 +18,6 @@ use Rattle.message.specs.declared.Outgoing.{Outgoing}
 use Rattle.endian.proofs.PartLaws.{by_order}
 use Rattle.endian.specs.Number.{with_number}
 use Rattle.endian.proofs.NumberLaws.{length_with_number}
-use Rattle.message.specs.declared.Reading.TheVariants.{Fault}
 use Rattle.record.specs.Layout.{record_size, rows_of}
 use Rattle.record.specs.Record.{read_record, record_bytes, with_next, no_record}
 use Rattle.store.specs.Records.{record_in, right_length, records_of, on_records}
@@ -28,6 +27,7 @@ use Rattle.store.specs.Chain.{next_in, last_from, before_from}
 use Rattle.store.specs.Change.{with_next_in, appended, taken, put_in, put_each, unlinked, freed, drop_in, free_records, empty_head, empty_records}
 use Rattle.record.proofs.RoundTripLaws.{length_record}
 use Rattle.store.proofs.Bytes.{byte_other, Alike, alike_self, alike_trans, alike_next, alike_byte, alike_read, alike_rows, zero_none, cleared_none, nothing_none, length_cleared}
+use Rattle.std.specs.Prelude.{None}
 
 -- a change that keeps n, the number of records and their sizes, and leaves each record from 1 alike apart from next, or new
 pub record Local (New : List ℕ → Type 0) (rs rs' : List (List ℕ)) : Type 0 where
@@ -258,7 +258,7 @@ put_each_reads rs os rows i d =
     ((put_each_local os rs rows).each i d)
 
 pub drop_reads : (rs : List (List ℕ)) (k r : ℕ) → r ≢ 0 → (i : ℕ) → i ≢ 0
-    → Reads (record_in (drop_in rs k r) i) (record_in rs i) ⊎ ((n : ℕ) → read_record n (record_in (drop_in rs k r) i) ≡ Fault)
+    → Reads (record_in (drop_in rs k r) i) (record_in rs i) ⊎ ((n : ℕ) → read_record n (record_in (drop_in rs k r) i) ≡ None)
 drop_reads rs k r z i d =
     ⊎_elim
     (λ (a : Alike (record_in (drop_in rs k r) i) (record_in rs i)). inl (alike_reads a))
@@ -287,13 +287,13 @@ free_record P p (suc zero) i (suc j) h = absurd (not-suc-le-zero (le_of_suc-le-s
 free_record P p (suc (suc left)) i zero h = p (suc i)
 free_record P p (suc (suc left)) i (suc j) h = free_record P p (suc left) (suc i) j (le_of_suc-le-suc h)
 
-pub empty_reads : (count n i : ℕ) → i ≢ 0 → (m : ℕ) → read_record m (record_in (empty_records count n) i) ≡ Fault
+pub empty_reads : (count n i : ℕ) → i ≢ 0 → (m : ℕ) → read_record m (record_in (empty_records count n) i) ≡ None
 unfolding empty_records record_in
 empty_reads zero n i d m = nothing_none m
 empty_reads (suc left) n zero d m = absurd (d refl)
 empty_reads (suc left) n (suc i) d m =
     by_order (suc i) left
-    (λ h. free_record (λ r. read_record m r ≡ Fault) (cleared_none m) left 1 i h)
+    (λ h. free_record (λ r. read_record m r ≡ None) (cleared_none m) left 1 i h)
     (λ h. ap (read_record m) (get_or-eq_default (free_records left 1) [] (omega (arith, length_free_records left 1))) ∙ nothing_none m)
 
 pub empty_size : (left n : ℕ) → group_size (empty_records (suc left) n) ≡ n

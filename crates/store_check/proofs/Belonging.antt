@@ -1,12 +1,12 @@
 -- Whether a record belongs in an inbox by the two ends of its message.
 use Rattle.std.proofs.Common.{◌≡◌, ℕ, Bool, false, not, ◌&&◌, eqb, ltb, List, refl}
 use Rattle.record.specs.Record.{read_record}
-use Rattle.message.specs.declared.Reading.{Reading}
-use Rattle.message.specs.declared.Reading.TheVariants as reading
 use Rattle.record_read.specs.Ends.{ends_of}
 use Rattle.record_read.specs.declared.endpoints.Ends.{Ends}
 use Rattle.record_read.specs.declared.endpoints.Ends.TheVariants as ends
 use Rattle.store.specs.Sound.{addressed_to, belongs_to}
+use Rattle.std.specs.Prelude.{None, Option, Some}
+use Rattle.message.specs.declared.Envelope.{Envelope}
 
 -- the tests of the ends
 unfoldable pub from_another : ℕ → ℕ → Ends → Bool
@@ -17,6 +17,6 @@ pub belongs_by : (n owner : ℕ) (r : List ℕ) → from_another n owner (ends_o
 unfolding belongs_to addressed_to from_another ends_of
 belongs_by n owner r = read (read_record n r)
   where
-    read : (a : Reading) → from_another n owner (ends_of a) ≡ addressed_to n owner a
-    read reading.Fault = refl
-    read (reading.Found e) = refl
+    read : (a : Option Envelope) → from_another n owner (ends_of a) ≡ addressed_to n owner a
+    read None = refl
+    read (Some e) = refl

@@ -8,7 +8,6 @@ use mathlib.Core.List.{List, ◌∷◌, ◌++◌}
 use native.Mathlib.Omega.{arith}
 use lib.ListN.{length, set}
 use Rattle.item.specs.Maxima.{valid_size}
-use Rattle.message.specs.declared.Reading.TheVariants.{Fault}
 use Rattle.record.specs.Layout.{record_size, next_of, rows_of}
 use Rattle.record.specs.Record.{read_record, with_next, no_record, zero_after_next}
 use Rattle.store.specs.Records.{record_in}
@@ -29,6 +28,7 @@ use Rattle.store_laws.proofs.Links.{Small, same_first, same_head, free_set, free
 use Rattle.store_laws.proofs.Inbox.{InboxChanged, IsInbox, unlinked_is}
 use Rattle.store_laws.proofs.Sound.{Sound, size_least, size_most, head_long}
 use Rattle.store_laws.proofs.Relinked.{free_there, free_inner, free_alone, inbox_inner, inbox_alone, inbox_there, inbox_once, inbox_only, is_inbox, Relinked, alike_belongs, relinked_chains}
+use Rattle.std.specs.Prelude.{None}
 
 -- ---- the records, with the lists of their chains
 
@@ -183,7 +183,7 @@ pub record DropDone (rs : List (List ℕ)) (k r : ℕ) : Type 0 where
   pub free : free_list (drop_in rs k r) ≡ r ∷ free_list rs
   pub inbox : inbox_list (drop_in rs k r) k ≡ without r (inbox_list rs k)
   pub others : (j : ℕ) → j < group_size rs → j ≢ k → inbox_list (drop_in rs k r) j ≡ inbox_list rs j
-  pub message : message_in (drop_in rs k r) r ≡ Fault
+  pub message : message_in (drop_in rs k r) r ≡ None
   pub messages : (y : ℕ) → y ≢ r → message_in (drop_in rs k r) y ≡ message_in rs y
   pub rows_same : (y : ℕ) → y ≢ 0 → y ≢ r → rows_of (record_in (drop_in rs k r) y) ≡ rows_of (record_in rs y)
   pub more : free_count (drop_in rs k r) ≡ suc (free_count rs)

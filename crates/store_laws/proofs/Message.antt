@@ -14,8 +14,6 @@ use Rattle.item.specs.Tests.{by_cond, and_left, and_right, and_both}
 use Rattle.endian.proofs.PartLaws.{by_order}
 use Rattle.endian.specs.Zero.{all_zero}
 use Rattle.message.specs.declared.Envelope.{Envelope}
-use Rattle.message.specs.declared.Reading.{Reading}
-use Rattle.message.specs.declared.Reading.TheVariants.{Found, Fault}
 use Rattle.record.specs.Layout.{record_size, kind_at}
 use Rattle.record.specs.Record.{read_record, zero_after_next}
 use Rattle.store.specs.Records.{record_in}
@@ -27,11 +25,12 @@ use Rattle.store_laws.specs.Standing.{IsChain, OnChains}
 use Rattle.store_laws.proofs.Times.{by_same, stands_where}
 use Rattle.store_laws.proofs.Leads.{never_zero}
 use Rattle.store_laws.proofs.OnChains.{sound_chains}
+use Rattle.std.specs.Prelude.{None, Option, Some}
 
 -- ---- what a record says
 
 -- a free record holds no message
-pub free_none : (n : ℕ) (r : List ℕ) → zero_after_next r ≡ true → read_record n r ≡ Fault
+pub free_none : (n : ℕ) (r : List ℕ) → zero_after_next r ≡ true → read_record n r ≡ None
 unfolding zero_after_next all_zero
 free_none n r e =
     kind_none n r (sym (get_or-drop kind_at r 0 0) ∙ first (drop kind_at r) (and_right (eqb (length r) record_size) _ e))
@@ -41,17 +40,17 @@ free_none n r e =
     first (b ∷ l) z = eqb-true b 0 (and_left (eqb b 0) (all_zero l) z)
 
 -- a record that belongs to node k holds a message to it
-pub record MessageTo (n k : ℕ) (reading : Reading) : Type 0 where
+pub record MessageTo (n k : ℕ) (reading : Option Envelope) : Type 0 where
   pub envelope : Envelope
-  pub found : reading ≡ Found envelope
+  pub found : reading ≡ Some envelope
   pub from_group : envelope.sender < n
   pub to_other : envelope.sender ≢ envelope.addressee
   pub to_owner : envelope.addressee ≡ k
 
-pub addressed : (n k : ℕ) (reading : Reading) → addressed_to n k reading ≡ true → MessageTo n k reading
+pub addressed : (n k : ℕ) (reading : Option Envelope) → addressed_to n k reading ≡ true → MessageTo n k reading
 unfolding addressed_to
-addressed n k Fault e = absurd (false≢true e)
-addressed n k (Found m) e =
+addressed n k None e = absurd (false≢true e)
+addressed n k (Some m) e =
     let t = and_right (ltb m.sender n) _ e in
     record {
       envelope = m;
@@ -62,23 +61,23 @@ addressed n k (Found m) e =
     }
 
 -- and the other way round
-pub addressed_is : (n k : ℕ) (reading : Reading) → MessageTo n k reading → addressed_to n k reading ≡ true
+pub addressed_is : (n k : ℕ) (reading : Option Envelope) → MessageTo n k reading → addressed_to n k reading ≡ true
 unfolding addressed_to
 addressed_is n k reading m =
     let e : Envelope = m.envelope in
-    subst (λ (x : Reading). addressed_to n k x ≡ true) (sym m.found)
+    subst (λ (x : Option Envelope). addressed_to n k x ≡ true) (sym m.found)
     (and_both (lt-ltb e.sender n m.from_group) (and_both (ap not (ne_eqb e.sender e.addressee m.to_other)) (eq-eqb e.addressee k m.to_owner)))
 
-not_fault : (e : Envelope) → Found e ≡ Fault → ⊥
+not_fault : (e : Envelope) → Some e ≡ None → ⊥
 not_fault e p = let z : ◌≡◌ {A = ℕ} 0 1 = cc in omega arith
 
-same_message : (a b : Envelope) → Found a ≡ Found b → a ≡ b
+same_message : (a b : Envelope) → Some a ≡ Some b → a ≡ b
 same_message a b p = cc
 
 -- ---- in a sound store
 
 module _ (rs : List (List ℕ)) where
-  pub message_head : message_in rs 0 ≡ Fault
+  pub message_head : message_in rs 0 ≡ None
   unfolding message_in
   message_head = refl
 
@@ -86,10 +85,10 @@ module _ (rs : List (List ℕ)) where
   unfolding message_in
   message_read r d = rw (ne_eqb r 0 d)
 
-  pub message_beyond : (r : ℕ) → length rs ≤ r → message_in rs r ≡ Fault
+  pub message_beyond : (r : ℕ) → length rs ≤ r → message_in rs r ≡ None
   unfolding message_in record_in
   message_beyond r h =
-      by_cond (λ (x : Reading). x ≡ Fault) (eqb r 0) _ _
+      by_cond (λ (x : Option Envelope). x ≡ None) (eqb r 0) _ _
       (λ _. refl)
       (λ _. ap (read_record (group_size rs)) (get_or-eq_default rs [] h) ∙ nothing_none (group_size rs))
 
@@ -98,10 +97,10 @@ module _ (rs : List (List ℕ)) where
   stands_not i l r c h e = absurd (omega (arith, never_zero rs i l 0 c, ap (λ (k : ℕ). times k l) e))
 
   module _ (sound : sound_records rs ≡ true) where
-    pub message_free : (r : ℕ) → 0 < times r (free_list rs) → message_in rs r ≡ Fault
+    pub message_free : (r : ℕ) → 0 < times r (free_list rs) → message_in rs r ≡ None
     unfolding message_in
     message_free r h =
-        by_cond (λ (x : Reading). x ≡ Fault) (eqb r 0) _ _
+        by_cond (λ (x : Option Envelope). x ≡ None) (eqb r 0) _ _
         (λ _. refl)
         (λ _. free_none (group_size rs) (record_in rs r) ((sound_chains rs sound).free_zero r h))
 
@@ -114,7 +113,7 @@ module _ (rs : List (List ℕ)) where
         subst (MessageTo (group_size rs) k) (sym (message_read r d)) (addressed (group_size rs) k (read_record (group_size rs) (record_in rs r)) (c.inbox_owned k b r h))
 
     -- and every message stands on the inbox of its addressee
-    pub message_inbox : (r : ℕ) (e : Envelope) → message_in rs r ≡ Found e → (e.addressee < group_size rs) × (0 < times r (inbox_list rs e.addressee))
+    pub message_inbox : (r : ℕ) (e : Envelope) → message_in rs r ≡ Some e → (e.addressee < group_size rs) × (0 < times r (inbox_list rs e.addressee))
     message_inbox r e f =
         let c : OnChains rs (free_list rs) (inbox_list rs) = sound_chains rs sound in
         let d : r ≢ 0 = λ z. not_fault e (sym f ∙ ap (message_in rs) z ∙ message_head) in

@@ -11,7 +11,6 @@ use lib.ListN.{length}
 use Rattle.item.specs.Maxima.{valid_size}
 use Rattle.item.specs.declared.Item.{Item}
 use Rattle.message.specs.declared.Envelope.{Envelope}
-use Rattle.message.specs.declared.Reading.TheVariants.{Found}
 use Rattle.record.specs.Layout.{record_size, next_of, rows_of}
 use Rattle.record.specs.Record.{read_record, record_bytes}
 use Rattle.store.specs.Records.{record_in}
@@ -32,13 +31,14 @@ use Rattle.store_laws.proofs.Links.{Small, same_free, same_first, same_head, fre
 use Rattle.store_laws.proofs.Inbox.{InboxChanged, IsInbox, appended_is}
 use Rattle.store_laws.proofs.Sound.{Sound, size_least, size_most, head_long}
 use Rattle.store_laws.proofs.Relinked.{free_there, free_inner, free_alone, inbox_inner, inbox_only, is_inbox, Relinked, alike_belongs, relinked_chains}
+use Rattle.std.specs.Prelude.{Some}
 
 -- a message from a node of a group of n to another, which its record can hold
 pub record ForGroup (n : ℕ) (e : Envelope) (rows : List Item) : Type 0 where
   pub from_group : e.sender < n
   pub to_group : e.addressee < n
   pub to_other : e.sender ≢ e.addressee
-  pub reads : read_record n (record_bytes n 0 e rows) ≡ Found e
+  pub reads : read_record n (record_bytes n 0 e rows) ≡ Some e
 
 -- ---- the records, with the lists of their chains
 
@@ -216,7 +216,7 @@ pub record PutDone (rs : List (List ℕ)) (e : Envelope) (rows : List Item) : Ty
   pub free : free_list rs ≡ first_free rs ∷ free_list (put_in rs e rows)
   pub inbox : inbox_list (put_in rs e rows) e.addressee ≡ inbox_list rs e.addressee ++ (first_free rs ∷ [])
   pub others : (j : ℕ) → j < group_size rs → j ≢ e.addressee → inbox_list (put_in rs e rows) j ≡ inbox_list rs j
-  pub message : message_in (put_in rs e rows) (first_free rs) ≡ Found e
+  pub message : message_in (put_in rs e rows) (first_free rs) ≡ Some e
   pub messages : (r : ℕ) → r ≢ first_free rs → message_in (put_in rs e rows) r ≡ message_in rs r
   pub rows_put : rows_of (record_in (put_in rs e rows) (first_free rs)) ≡ rows_of (record_bytes (group_size rs) 0 e rows)
   pub rows_same : (r : ℕ) → r ≢ 0 → r ≢ first_free rs → rows_of (record_in (put_in rs e rows) r) ≡ rows_of (record_in rs r)
