@@ -81,15 +81,9 @@ pub fn view_of(node: Node, sender: usize) -> SenderView
 }
 
 // Whether other incarnation, attempt and item are the node's own present ones.
-#[tactic(auto, unfolding(crate::specs::View::own_write_in))]
+#[tactic(auto, unfolding(crate::specs::View::own_write_in, item::specs::Counter::same_incarnation, item::specs::Counter::same_attempt, item::specs::Item::same_item, item::specs::Item::tags_agree))]
 pub fn own_write(view: SenderView, other: Incarnation, attempt: Attempt, item: Item) -> bool
     ensures { result ≡ own_write_in view other attempt item }
 {
-    if !other.same(view.incarnation) {
-        return false;
-    }
-    if !attempt.same(view.attempt) {
-        return false;
-    }
-    item.same(view.own)
+    other == view.incarnation && attempt == view.attempt && item == view.own
 }
