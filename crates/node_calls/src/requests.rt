@@ -14,7 +14,7 @@ pub fn send_store(node: Node) -> Step
 {
     let store = Message::Store {
         attempt: node.attempt,
-        item: own_item(node),
+        item: own_item(&node),
     };
     ok(node, Sends::Others(store))
 }

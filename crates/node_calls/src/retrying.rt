@@ -15,7 +15,7 @@ fn retried(node: Node) -> Node
 {
     let storing = at_stage(node.phase, Stage::Storing);
     let attempt = node.attempt.next();
-    let item = own_item(node);
+    let item = own_item(&node);
     storing_begun(node, storing, attempt, item)
 }
 

@@ -25,7 +25,7 @@ fn next_item(item: Item, tag: Tag) -> Item
 fn write_at_largest(node: Node) -> bool
     ensures { result ≡ write_at_largest node }
 {
-    own_item(node).index.at_largest() || node.attempt.at_largest()
+    own_item(&node).index.at_largest() || node.attempt.at_largest()
 }
 
 // The node when its write of the next item has begun.
@@ -33,7 +33,7 @@ fn write_at_largest(node: Node) -> bool
 fn written(node: Node, tag: Tag) -> Node
     ensures { result ≡ written_node node tag }
 {
-    let item = own_item(node);
+    let item = own_item(&node);
     let next = next_item(item, tag);
     let attempt = node.attempt.next();
     storing_begun(node, Phase::Up(Stage::Storing), attempt, next)

@@ -45,7 +45,7 @@ module _ (node : Node) (sender : ℕ) where
   unfolding sender_counted changed view_of
   step_counted incarnation full =
       rw (
-        step_cond node sender,
+        step_cond,
         step_refused,
         step_ok_cond,
         below_half_of node sender incarnation,
