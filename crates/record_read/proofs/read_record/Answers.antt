@@ -12,8 +12,8 @@ pub returns : goal.returns
 returns c =
     let r = c.args.r.now in
     let f = c.read_fields-fields in
-    let m = c.in-Known.message in
-    let e = sym c.message_of.ensures ∙ c.in-Known.is in
+    let m = c.in-Some.message in
+    let e = sym c.message_of.ensures ∙ c.in-Some.is in
     let z = sym c.zero_after_rows.ensures ∙ c.if-not-zero_after_rows.false in
     let again = zero_read c.args.n r m (ap message_of (sym f.ensures) ∙ e) (zero_long _ _ z) in
     sym (read_found c.args.n r f.result m c.requires f.ensures e (sym again ∙ z))
