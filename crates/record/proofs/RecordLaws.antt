@@ -61,6 +61,14 @@ module _ (s : List ℕ) (i : ℕ) where
   unfolding with_record with_chunk
   record_back r h = put_back record_size s (i * record_size) r h
 
+  -- the same where code begins it at a
+  module _ (a : ℕ) (h : (i * record_size + record_size ≤ length s) × (a ≡ i * record_size)) where
+    pub lent_at : take (a + record_size - a) (drop a s) ≡ record_of s i
+    lent_at = rw h.1 (record_lent h.0)
+
+    pub back_at : (r : List ℕ) → put_mid a (a + record_size - a) s r ≡ with_record s i r
+    back_at r = rw h.1 (record_back r h.0)
+
   pub with_record_none : (r : List ℕ) → length s < i * record_size + record_size → with_record s i r ≡ s
   unfolding with_record with_chunk
   with_record_none r h = with_none record_size s (i * record_size) r h

@@ -1,27 +1,34 @@
--- A turn of the loop that pads the rows, and its first and last state: the rows held are as they were, and zero items follow them.
-use Prim.Native.Nat.{ℕ, suc, ◌+◌, ◌≤◌, ◌<◌}
-use mathlib.Core.Path.{◌≡◌, sym, ap, ◌∙◌}
-use mathlib.Core.List.{List, ◌++◌, append-nil}
-use native.Mathlib.Numerals.{add-one}
-use lib.ListN.{length, take, drop, get_or, set, take-append-drop, drop_of_length-le}
-use lib.Seq.{length-take-le, set_at, drop-cons, append_snoc}
+-- The rows that are kept, and zero items in place of the others.
+use Prim.Native.Nat.{ℕ, zero, suc, ◌+◌, ◌-◌, ◌≤◌}
+use native.Mathlib.Omega.{arith}
+use borrow.Rule.Slice.PartMut.{put_mid}
+use mathlib.Core.Path.{◌≡◌, refl, ap, ◌∙◌}
+use mathlib.Core.List.{List, [], ◌∷◌, ◌++◌, append-nil}
+use native.Mathlib.Nat.{zero-add, suc-add}
+use lib.ListN.{length, take, drop, replicate, length-drop, drop_of_length-le}
+use lib.Seq.{length-take-le}
 use Rattle.item.specs.Item.{zero_item}
 use Rattle.item.specs.declared.Item.{Item}
 use Rattle.record.specs.Layout.{padded}
-use Rattle.record.proofs.LayoutLaws.{length_padded, padded_all, padded_more}
 
-pub padded_start : (k : ℕ) (items : List Item) → k ≤ length items → items ≡ padded k (take k items) ++ drop k items
-padded_start k items h =
-    let e : length (take k items) ≡ k = length-take-le k items h in
-    sym (ap (λ (l : List Item). l ++ drop k items) (ap (λ (n : ℕ). padded n (take k items)) (sym e) ∙ padded_all (take k items)) ∙ take-append-drop k items)
+zero_items : (m : ℕ) → replicate m zero_item ≡ padded m []
+unfolding padded
+zero_items zero = refl
+zero_items (suc m) = ap (λ (l : List Item). zero_item ∷ l) (zero_items m)
 
-pub padded_turn : (j : ℕ) (held items : List Item) → length held ≤ j → j < length items
-    → set (padded j held ++ drop j items) j zero_item ≡ padded (j + 1) held ++ drop (j + 1) items
-padded_turn j held items h l =
-    ap (λ (r : List Item). set (padded j held ++ r) j zero_item) (drop-cons items j zero_item l)
-    ∙ set_at (padded j held) (get_or items j zero_item) (drop (suc j) items) zero_item j (length_padded j held)
-    ∙ sym (append_snoc (padded j held) zero_item (drop (suc j) items))
-    ∙ rw (add-one, padded_more j held h)
+padded_zeros : (held m : ℕ) (items : List Item) → length items ≡ held + m → take held items ++ replicate m zero_item ≡ padded (held + m) (take held items)
+unfolding padded
+padded_zeros zero m items h = rw zero-add (zero_items m)
+padded_zeros (suc held) m [] h = absurd (omega arith)
+padded_zeros (suc held) m (i ∷ items) h = rw suc-add (ap (λ (l : List Item). i ∷ l) (padded_zeros held m items (omega arith)))
 
-pub padded_end : (j : ℕ) (held items : List Item) → length items ≤ j → padded j held ++ drop j items ≡ padded j held
-padded_end j held items h = ap (λ (r : List Item). padded j held ++ r) (drop_of_length-le items {i = j} h) ∙ append-nil (padded j held)
+-- as code fills all but the first `held` of n items
+pub padded_filled : (n held : ℕ) (items zeros : List Item) (z : Item) → length items ≡ n → held ≤ n → z ≡ zero_item
+    → zeros ≡ replicate (length (take (n - held) (drop held items))) z → put_mid held (n - held) items zeros ≡ padded n (take held items)
+padded_filled n held items zeros z l h ez e =
+    let k : length (take (n - held) (drop held items)) ≡ n - held = length-take-le (n - held) (drop held items) (omega (arith, length-drop held items)) in
+    let past : drop (n - held) (drop held items) ≡ [] = drop_of_length-le (drop held items) {i = n - held} (omega (arith, length-drop held items)) in
+    ap (λ (r : List Item). take held items ++ (zeros ++ r)) past
+    ∙ ap (λ (r : List Item). take held items ++ r) (append-nil zeros ∙ e ∙ (λ i. replicate (k i) (ez i)))
+    ∙ padded_zeros held (n - held) items (omega arith)
+    ∙ ap (λ (k : ℕ). padded k (take held items)) (omega arith)

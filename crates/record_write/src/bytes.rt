@@ -1,5 +1,5 @@
 // One record written to its bytes, as a slice of its own. A slice that is too short is not written.
-ghost use Rattle.std.specs.Prelude.{◌≡◌, ◌+◌, ◌*◌, ◌≤◌, length};
+ghost use Rattle.std.specs.Prelude.{◌≡◌, ◌+◌, ◌*◌, ◌≤◌};
 ghost use Rattle.item.specs.Maxima.{max_nodes};
 ghost use Rattle.endian.specs.Part.{with_part};
 ghost use Rattle.record.specs.Layout.{record_size, next_at, kind_at, rows_at, fields_size, row_size, item_bytes, address_byte, field_bytes, rows_bytes, layout_bytes};
@@ -8,12 +8,12 @@ use item::Item;
 use record::kinds::Fields;
 use record::layout;
 
-fn write_item(r: &mut [u8], at: usize, item: Item)
-    requires { at + row_size ≤ length r.old }
+fn write_item(r: &mut [u8; layout::SIZE], at: usize, item: Item)
+    requires { at + row_size ≤ record_size }
     ensures { r.new ≡ with_part row_size r.old at (item_bytes item) }
 {
-    endian::write_u64(r, at, item.index.0);
-    endian::write_u64(r, at + layout::INDEX_SIZE, item.tag.0);
+    endian::write(r, at, item.index.0);
+    endian::write(r, at + layout::INDEX_SIZE, item.tag.0);
 }
 
 // Sender and addressee in one byte, half for each.
@@ -24,28 +24,23 @@ fn address_byte(sender: usize, addressee: usize) -> u8
     (sender % 16 * 16 + addressee % 16) as u8
 }
 
-fn write_fields(r: &mut [u8], fields: Fields)
-    requires { record_size ≤ length r.old }
+fn write_fields(r: &mut [u8; layout::SIZE], fields: Fields)
     ensures { r.new ≡ with_part fields_size r.old kind_at (field_bytes fields) }
 {
     r[layout::KIND_AT] = fields.kind;
     r[layout::ADDRESS_AT] = address_byte(fields.sender, fields.addressee);
-    endian::write_u32(r, layout::INCARNATION_AT, fields.incarnation.0);
-    endian::write_u32(r, layout::OTHER_AT, fields.other.0);
-    endian::write_u32(r, layout::ATTEMPT_AT, fields.attempt.0);
+    endian::write(r, layout::INCARNATION_AT, fields.incarnation.0);
+    endian::write(r, layout::OTHER_AT, fields.other.0);
+    endian::write(r, layout::ATTEMPT_AT, fields.attempt.0);
     write_item(r, layout::ITEM_AT, fields.item);
 }
 
 #[tactic(auto, unfolding(record::specs::Layout::rows_bytes))]
-fn write_rows(r: &mut [u8], rows: [Item; item::MAX_NODES])
-    requires { record_size ≤ length r.old }
+fn write_rows(r: &mut [u8; layout::SIZE], rows: [Item; item::MAX_NODES])
     ensures { r.new ≡ with_part (max_nodes * row_size) r.old rows_at (rows_bytes rows) }
 {
-    let mut j = 0;
-    while j < item::MAX_NODES {
-        let row = rows[j];
-        write_item(r, layout::ROWS_AT + j * layout::ROW_SIZE, row);
-        j += 1;
+    for (j, row) in rows.iter().enumerate() {
+        write_item(r, layout::ROWS_AT + j * layout::ROW_SIZE, *row);
     }
 }
 
@@ -53,10 +48,10 @@ fn write_rows(r: &mut [u8], rows: [Item; item::MAX_NODES])
 pub fn write_record(r: &mut [u8], next: u16, fields: Fields, rows: [Item; item::MAX_NODES])
     ensures { r.new ≡ with_part record_size r.old next_at (layout_bytes next fields rows) }
 {
-    if r.len() < layout::SIZE {
+    let Some(r) = r.first_chunk_mut() else {
         return;
-    }
-    endian::write_u16(r, layout::NEXT_AT, next);
+    };
+    endian::write(r, layout::NEXT_AT, next);
     write_fields(r, fields);
     write_rows(r, rows);
 }

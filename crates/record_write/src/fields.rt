@@ -1,51 +1,70 @@
 // What a message has in each field of its record.
 ghost use Rattle.std.specs.Prelude.{◌≡◌};
-ghost use Rattle.record.specs.Kind.{filled, fields_of};
+ghost use Rattle.record.specs.Kind.{fields_of};
 
 use item::{Attempt, Incarnation, Item};
 use message::{Envelope, Message};
 use record::kinds::{CONFIRM, CONFIRMED, FETCH, Fields, STORE, STORED, TABLE};
-
-// The fields of an envelope, with these where kinds differ.
-fn filled(envelope: Envelope, kind: u8, other: Incarnation, attempt: Attempt, item: Item) -> Fields
-    ensures { result ≡ filled envelope kind other attempt item }
-{
-    let incarnation = envelope.incarnation;
-    Fields {
-        kind: kind,
-        sender: envelope.sender,
-        addressee: envelope.addressee,
-        incarnation: incarnation,
-        other: other,
-        attempt: attempt,
-        item: item,
-    }
-}
 
 // What a message has in each field; 0 in those that its kind does not use.
 #[tactic(auto, unfolding(record::specs::Kind::fields_of, record::specs::Kind::kind_of, record::specs::Kind::other_of, record::specs::Kind::attempt_of, record::specs::Kind::item_of))]
 pub fn fields_of(envelope: Envelope) -> Fields
     ensures { result ≡ fields_of envelope }
 {
-    let message = envelope.message;
-    match message {
-        Message::Store { attempt, item } => filled(envelope, STORE, Incarnation(0), attempt, item),
+    let unused = Fields {
+        kind: FETCH,
+        sender: envelope.sender,
+        addressee: envelope.addressee,
+        incarnation: envelope.incarnation,
+        other: Incarnation(0),
+        attempt: Attempt(0),
+        item: Item::zero(),
+    };
+    match envelope.message {
+        Message::Store { attempt, item } => Fields {
+            kind: STORE,
+            attempt,
+            item,
+            ..unused
+        },
         Message::Stored {
             other,
             attempt,
             item,
-        } => filled(envelope, STORED, other, attempt, item),
+        } => Fields {
+            kind: STORED,
+            other,
+            attempt,
+            item,
+            ..unused
+        },
         Message::Confirm {
             other,
             attempt,
             item,
-        } => filled(envelope, CONFIRM, other, attempt, item),
+        } => Fields {
+            kind: CONFIRM,
+            other,
+            attempt,
+            item,
+            ..unused
+        },
         Message::Confirmed {
             other,
             attempt,
             item,
-        } => filled(envelope, CONFIRMED, other, attempt, item),
-        Message::Fetch => filled(envelope, FETCH, Incarnation(0), Attempt(0), Item::zero()),
-        Message::Table { other } => filled(envelope, TABLE, other, Attempt(0), Item::zero()),
+        } => Fields {
+            kind: CONFIRMED,
+            other,
+            attempt,
+            item,
+            ..unused
+        },
+        Message::Fetch => unused,
+        Message::Table { other } => Fields {
+            kind: TABLE,
+            other,
+            ..unused
+        },
     }
 }

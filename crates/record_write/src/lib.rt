@@ -14,7 +14,7 @@ pub use bytes::write_record;
 pub use fields::fields_of;
 use item::Item;
 use message::Envelope;
-use record::SIZE;
+use record::{SIZE, layout};
 
 // Record `i` becomes this message, with `next` after it on its chain: of the rows as many as the message has in a
 // group of `n`, and zeros after them.
@@ -28,12 +28,10 @@ pub fn write(
 )
     ensures { s.new ≡ with_record s.old i (record_bytes n next envelope rows) }
 {
-    if s.len() / SIZE <= i {
+    let Some(a) = layout::start_of(s.len(), i) else {
         return;
-    }
-    let a = i * SIZE;
-    let message = envelope.message;
-    let held = rows::held_rows(message, n, rows);
+    };
+    let held = rows::held_rows(envelope.message, n, rows);
     let fields = fields::fields_of(envelope);
     bytes::write_record(&mut s[a..a + SIZE], next, fields, held);
 }

@@ -13,33 +13,8 @@ pub fn rows_held(message: Message, n: usize) -> usize
     ensures { result ≡ rows_held message n }
 {
     match message {
-        Message::Store {
-            attempt: _,
-            item: _,
-        } => 0,
-        Message::Stored {
-            other: _,
-            attempt: _,
-            item: _,
-        } => 0,
-        Message::Confirm {
-            other: _,
-            attempt: _,
-            item: _,
-        } => 0,
-        Message::Confirmed {
-            other: _,
-            attempt: _,
-            item: _,
-        } => 0,
-        Message::Fetch => 0,
-        Message::Table { other: _ } => {
-            if n < item::MAX_NODES {
-                n
-            } else {
-                item::MAX_NODES
-            }
-        }
+        Message::Table { .. } => n.min(item::MAX_NODES),
+        _ => 0,
     }
 }
 
@@ -49,11 +24,7 @@ fn padded_rows(rows: [Item; item::MAX_NODES], held: usize) -> [Item; item::MAX_N
     ensures { result ≡ padded max_nodes (take held rows) }
 {
     let mut items = rows;
-    let mut j = held;
-    while j < item::MAX_NODES {
-        items[j] = Item::zero();
-        j += 1;
-    }
+    items[held..].fill(Item::zero());
     items
 }
 

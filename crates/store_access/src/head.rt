@@ -31,7 +31,7 @@ fn wide(x: u8) -> usize
 pub fn first_free(s: &[u8]) -> usize
     ensures { result ≡ first_free (records_of s.now) }
 {
-    endian::read_u16(s, FREE_AT) as usize
+    usize::from(endian::read::<u16>(s, FREE_AT))
 }
 
 // The size of the group.
@@ -53,7 +53,7 @@ pub fn first_of(s: &[u8], k: usize) -> usize
     if INBOXES <= k {
         return 0;
     }
-    endian::read_u16(s, INBOXES_AT + k * INBOX_SIZE) as usize
+    usize::from(endian::read::<u16>(s, INBOXES_AT + k * INBOX_SIZE))
 }
 
 // `i` modulo 65,536 becomes the first free record.
@@ -63,7 +63,7 @@ pub fn set_first_free(s: &mut [u8], i: usize)
     if s.len() < record::SIZE {
         return;
     }
-    endian::write_u16(&mut s[0..record::SIZE], FREE_AT, (i % 65536) as u16);
+    endian::write(&mut s[0..record::SIZE], FREE_AT, (i % 65536) as u16);
 }
 
 // `i` modulo 65,536 becomes the first record of node `k`'s inbox.
@@ -78,7 +78,7 @@ pub fn set_first_of(s: &mut [u8], k: usize, i: usize)
         return;
     }
     let at = INBOXES_AT + k * INBOX_SIZE;
-    endian::write_u16(&mut s[0..record::SIZE], at, (i % 65536) as u16);
+    endian::write(&mut s[0..record::SIZE], at, (i % 65536) as u16);
 }
 
 // `n` modulo 256 becomes the size of the group.

@@ -9,28 +9,29 @@ use Rattle.endian.proofs.PartLaws.{with_all}
 use Rattle.record.proofs.LayoutLaws.{length_layout, length_padded}
 use Rattle.record.specs.Kind.{fields_of, rows_held}
 use Rattle.record.specs.Record.{record_bytes}
-use Prim.Native.Nat.{ℕ, ◌+◌, ◌-◌, ◌*◌, ◌≤◌}
+use Prim.Native.Nat.{ℕ, ◌+◌, ◌-◌}
 use lib.ListN.{length, take}
 use native.Mathlib.Omega.{arith}
 use mathlib.Core.Path.{◌≡◌, sym, ap, ◌∙◌}
-use Rattle.record.proofs.RecordLaws.{length_record_of, record_lent, record_back, with_record_none}
+use Rattle.record.proofs.RecordLaws.{length_record_of, lent_at, back_at, with_record_none}
 use Rattle.record_write.proofs.write.Goals as goal
 
-pub returns-then-s-i : goal.returns-then-s-i
-returns-then-s-i c = let a = c.args in sym (with_record_none a.s.now a.i _ (omega arith))
+pub returns-in_default : goal.returns-in_default
+returns-in_default c = let a = c.args in let h = c.in_default.ensures in sym (with_record_none a.s.now a.i _ (omega arith))
 
 pub returns : goal.returns
 unfolding record_bytes held_rows
 returns c =
     let a = c.args in
     let s = a.s.now in
+    let from = c.in-Some.a in
+    let h = c.in-Some.ensures in
     let held : List Item = held_rows a.envelope.message a.n a.rows in
     let whole : List ℕ = layout_bytes a.next (fields_of a.envelope) held in
     let long : length whole ≡ record_size =
     length_layout a.next (fields_of a.envelope) held (length_padded max_nodes (take (rows_held a.envelope.message a.n) a.rows)) in
-    let h : a.i * record_size + record_size ≤ length s = omega arith in
-    ap (put_mid (a.i * record_size) (a.i * record_size + record_size - a.i * record_size) s)
+    ap (put_mid from (from + record_size - from) s)
     (c.write_record.ensures
-    ∙ (λ j. with_part record_size (record_lent s a.i h j) next_at (layout_bytes a.next (c.fields_of-fields.ensures j) (c.held_rows-held.ensures j)))
-    ∙ with_all record_size (record_of s a.i) whole (length_record_of s a.i h) long)
-    ∙ record_back s a.i whole h
+    ∙ (λ j. with_part record_size (lent_at s a.i from h j) next_at (layout_bytes a.next (c.fields_of-fields.ensures j) (c.held_rows-held.ensures j)))
+    ∙ with_all record_size (record_of s a.i) whole (length_record_of s a.i h.0) long)
+    ∙ back_at s a.i from h whole
