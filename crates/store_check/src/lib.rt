@@ -94,8 +94,8 @@ fn check_records(s: &[u8; store::LENGTH]) -> Option<Survey>
 pub fn check_store(s: &[u8]) -> Option<Survey>
     ensures { result ≡ survey s.now }
 {
-    match <&[u8; store::LENGTH]>::try_from(s) {
-        Ok(store) => check_records(store),
-        Err(_) => None,
+    match s.as_array() {
+        Some(store) => check_records(store),
+        None => None,
     }
 }
