@@ -7,7 +7,7 @@ use Rattle.record.specs.Kind.{kind_of, other_of, attempt_of, item_of, fields_of}
 use Rattle.store.specs.Change.{count_outgoing}
 use Rattle.protocol.specs.Answer.{refused, ok}
 use Rattle.protocol.specs.Deliver.{on_message, deliver_step}
-use Rattle.protocol.specs.Fetching.{on_fetch, none_counted, with_table, has_conflict, stopped, written_back, node_recover, table_counted, on_table}
+use Rattle.protocol.specs.Fetching.{on_fetch, none_counted, with_table, has_conflict, stopped, written_back, recovered, node_recover, table_counted, on_table}
 use Rattle.protocol.specs.Merge.{merge_row, merge_rows, lowest_marked}
 use Rattle.protocol.specs.Network.{packet_of, packets_of, network_after, fresh_network}
 use Rattle.protocol.specs.Node.{half, row_of, own_item, peer_of, count_peers, blank_node, crashed, started, storing_begun, with_row, with_counted, confirming_begun, write_ended, with_rows, fresh_node, row_items}
@@ -46,7 +46,7 @@ confirming = tt
 
 -- Fetch and Table
 unfoldable pub fetching : Unit {0}
-unfolding fields deliver_step on_message on_fetch on_table is_counted none_counted with_table with_rows with_counted merge_rows merge_row has_conflict lowest_marked stopped crashed node_recover table_counted written_back storing_begun send_store
+unfolding fields deliver_step on_message on_fetch on_table is_counted none_counted with_table with_rows with_counted merge_rows merge_row has_conflict lowest_marked stopped crashed recovered node_recover table_counted written_back storing_begun send_store
 fetching = tt
 
 -- ---- table and messages
