@@ -13,7 +13,10 @@ pub fn merge_row(first: bool, row: Row, item: Item) -> Row
     ensures { result ≡ merge_row first row item }
 {
     if first || row.item.ranks_below(item) {
-        return Row { item, ..Row::zero() };
+        return Row {
+            item,
+            ..Row::zero()
+        };
     }
     if item.ranks_below(row.item) || item == row.item {
         return row;
