@@ -57,7 +57,7 @@ not_asked line n e = of_line (line_for n line) e
     of_line (Some l) t = absurd (cc)
 
 -- the last line ended asks this
-unfoldable asking_at : ℕ → ℕ → ℕ → ℕ → Asked → Position
+abbrev asking_at : ℕ → ℕ → ℕ → ℕ → Asked → Position
 asking_at next at count n asked = record { next = next; at = at; count = count; pending = none_yet; n = n; asked = Some asked }
 
 abbrev Printed : List ℕ → ℕ → List ℕ → List ℕ → ℕ → Type 0
@@ -93,7 +93,7 @@ module _ (piece : List ℕ) (before : Progress) (store_before : List ℕ) (nodes
           }
 
       pub rest_asks : (asked : Asked) → asked_by n (buffered_line pending) ≡ Some asked → At out (asking_at (next + 1) at (count + 1) n asked)
-      unfolding resting_at asking_at position_output asked_output rest_output answer_output room_taken progress_output line_done
+      unfolding resting_at position_output asked_output rest_output answer_output room_taken progress_output line_done
       rest_asks asked t =
           let drill : Drill = record { n = n; nodes = nodes } in
           let d : line_done (buffered_line pending) drill store ≡ done asked n (operated_first asked nodes store) = asked_done (buffered_line pending) n nodes store asked t in
@@ -189,7 +189,7 @@ module _ {piece out₀ : List ℕ} {from : Position} {out : List ℕ} {here : Po
 
       pub asks_there : is_some asked ≡ true
           → Reads piece out₀ (nothing_asked from) out (record { next = here.next + 1; at = here.at; count = here.count + 1; pending = none; n = here.n; asked = asked })
-      unfolding nothing_asked resting_at asking_at
+      unfolding nothing_asked resting_at
       asks_there t = of_asked asked a t
         where
           of_asked : (o : Option Asked) → o ≡ asked_by here.n (buffered_line here.pending) → is_some o ≡ true

@@ -4,7 +4,6 @@ use Rattle.answers.specs.Output.{output_line, line_room}
 use Rattle.script.specs.declared.Asked.{Asked}
 use Rattle.script.specs.declared.Asked.TheVariants as ask
 use Rattle.script.specs.Operated.{operated_first}
-use Rattle.script.specs.LineBuffer.{none_yet}
 use Rattle.script.specs.declared.buffer.LineBuffer.{LineBuffer}
 use Rattle.drill_state.specs.Feeding.{buffered_output, progress_output, Counted}
 use Rattle.drill_state.specs.Turn.{line_for, size_after}

@@ -1,6 +1,6 @@
 use Prim.Native.Nat.{◌+◌, ◌≤◌}
 use native.Mathlib.Omega.{arith}
-use mathlib.Core.Path.{◌≡◌, sym, ap, ◌∙◌}
+use mathlib.Core.Path.{sym, ap, ◌∙◌}
 use mathlib.Core.Logic.{inl, inr}
 use lib.ListN.{length}
 use borrow.Author.Tests.{leb-true, leb-false}
@@ -29,7 +29,7 @@ loop-here-preserved c =
     let room : c.loop-here.here.at + line_room ≤ length c.loop-here.out = leb-true _ _ (granted c.has_room.ensures (search rules)) in (
       omega (arith, c.if-here.false, c.loop-here.invariant.0),
       kept_unread c.loop-here.invariant.1 c.loop-here-test.true c.if-b-ne10.false room _ c.none-here.ensures _
-      (c.asked_by-asked.ensures ∙ ap (asked_by _) c.read.ensures) (search rules) _ _ c.print_line.ensures,
+          (c.asked_by-asked.ensures ∙ ap (asked_by _) c.read.ensures) (search rules) _ _ c.print_line.ensures,
     )
 
 pub returns-after-loop-here : goal.returns-after-loop-here
