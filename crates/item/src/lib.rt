@@ -1,12 +1,11 @@
-// Tags, items and rows, the counters, the sizes of groups, and every comparison of them that the layers above use: nobody
-// above compares their fields by hand.
+// Tags, items and rows, the counters, the sizes of groups, and their comparisons.
 #![tactic(auto)]
 
 mod counters;
 
 ghost use Rattle.std.specs.Prelude.{◌≡◌};
 ghost use Rattle.item.specs.Counter.{same_attempt, same_incarnation};
-ghost use Rattle.item.specs.Item.{tags_agree, ranks_below, same_item, zero_item};
+ghost use Rattle.item.specs.Item.{ranks_below, same_item, zero_item};
 ghost use Rattle.item.specs.Maxima.{valid_size};
 ghost use Rattle.item.specs.Row.{same_row, zero_row};
 
@@ -47,14 +46,6 @@ pub struct Row {
 impl Tag {
     // The bytes that a tag takes in a record.
     pub const SIZE: usize = 8;
-
-    // Whether the two tags are equal.
-    #[tactic(auto, unfolding(crate::specs::Item::tags_agree))]
-    fn agrees(self, tag: Tag) -> bool
-        ensures { result ≡ tags_agree self tag }
-    {
-        self == tag
-    }
 }
 
 impl Item {
@@ -69,19 +60,12 @@ impl Item {
     }
 
     // Whether this item ranks below the item. Items rank by their index.
+    // Kept: no `PartialOrd`, since an order has to tell apart what `==` does, and rank looks at no tag.
     #[tactic(auto, unfolding(crate::specs::Item::ranks_below, crate::specs::Counter::index_below))]
     pub fn ranks_below(self, item: Item) -> bool
         ensures { result ≡ ranks_below self item }
     {
         self.index < item.index
-    }
-
-    // Whether the two items are equal, tags included.
-    #[tactic(auto, unfolding(crate::specs::Item::same_item, crate::specs::Item::tags_agree))]
-    pub fn same(self, item: Item) -> bool
-        ensures { result ≡ same_item self item }
-    {
-        self == item
     }
 }
 
@@ -96,14 +80,6 @@ impl Row {
             attempt: Attempt(0),
             marked: false,
         }
-    }
-
-    // Whether the two rows are equal in every field.
-    #[tactic(auto, unfolding(crate::specs::Row::same_row, crate::specs::Item::same_item, crate::specs::Item::tags_agree, crate::specs::Counter::same_incarnation, crate::specs::Counter::same_attempt))]
-    pub fn same(self, row: Row) -> bool
-        ensures { result ≡ same_row self row }
-    {
-        self == row
     }
 }
 
