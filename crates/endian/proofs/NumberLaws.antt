@@ -2,15 +2,15 @@
 -- two narrower ones.
 use Prim.Native.Nat.{ℕ, zero, suc, ◌+◌, ◌*◌, ◌/◌, ◌%◌, ◌^◌, ◌≤◌, ◌<◌}
 use mathlib.Core.Path.{◌≡◌, refl, sym, ap, ◌∙◌}
-use mathlib.Core.Bool.{Bool, true, false}
+use mathlib.Core.Bool.{Bool, false}
 use mathlib.Core.List.{List, [], ◌∷◌, ◌++◌}
 use native.Mathlib.Omega.{arith}
 use native.Mathlib.Numerals.{add-one}
 use native.Mathlib.Nat.{suc-add, zero-add, pow-suc, pow-succ', mul_assoc, mod-add-div, mod-mod, mod-lt, mod-eq_of_lt, div-eq_of_lt, div-lt_iff_lt-mul, div-div-eq-div-mul, div-one, add-mul-div_left, add-mul-mod_self_left, mul-add-mod_self_left}
 use lib.Dec.{leb}
-use lib.ListN.{length, take, drop, get_or, set, length-take, take-append-drop, get_or-eq_default}
+use lib.ListN.{length, take, drop, get_or, length-take, take-append-drop, get_or-eq_default}
 use lib.Seq.{take-add, drop-drop, drop-cons, get_or-take, get_or-drop}
-use Rattle.endian.proofs.PartLaws.{by_order, part_is, part_none, length_middle, length_with, part_with, with_none, with_joined, sets_is, outside, inside}
+use Rattle.endian.proofs.PartLaws.{by_order, part_is, part_none, length_middle, length_with, part_with, with_none, outside}
 use Rattle.endian.specs.Number.{value, bytes, number_at, with_number, AreBytes}
 
 pub length_bytes : (w v : ℕ) → length (bytes w v) ≡ w
@@ -65,7 +65,7 @@ low_digits n m p =
     ∙ mul-add-mod_self_left (256 * m) (n / 256 / m) (n % 256 + 256 * (n / 256 % m))
     ∙ mod-eq_of_lt (omega arith)
 
-one_at_least : (w : ℕ) → 0 < 256 ^ w
+pub one_at_least : (w : ℕ) → 0 < 256 ^ w
 one_at_least zero = omega arith
 one_at_least (suc w) = let h : 0 < 256 ^ w = one_at_least w in rw pow-succ' (omega arith)
 
@@ -94,12 +94,6 @@ pub number_two : (s : List ℕ) (at : ℕ) → at + 2 ≤ length s → number_at
 unfolding number_at value
 number_two s at h = rw (part_is 2 s at h, add-one, drop-cons s at 0 (omega arith), drop-cons s (suc at) 0 (omega arith)) (omega arith)
 
-pub with_two : (s : List ℕ) (at v : ℕ) → at + 2 ≤ length s → v < 65536 → set (set s at (v % 256)) (at + 1) (v / 256) ≡ with_number 2 s at v
-unfolding with_number bytes
-with_two s at v h k =
-    let high : v / 256 % 256 ≡ v / 256 = mod-eq_of_lt (omega arith) in
-    rw (add-one, high) (sets_is (v % 256 ∷ v / 256 ∷ []) s at h)
-
 -- past the end there is no number
 pub number_none : (w : ℕ) (s : List ℕ) (at : ℕ) → length s < at + w → number_at w s at ≡ 0
 unfolding number_at value
@@ -118,29 +112,9 @@ number_joined a b s at h =
     (value_append (take a (drop at s)) (take b (drop (at + a) s))
     ∙ ap (λ (k : ℕ). value (take a (drop at s)) + 256 ^ k * value (take b (drop (at + a) s))) (length_middle a s at (omega arith)))
 
-pub with_number_joined : (a b : ℕ) (s : List ℕ) (at v : ℕ) → at + (a + b) ≤ length s
-    → with_number b (with_number a s at (v % 256 ^ a)) (at + a) (v / 256 ^ a) ≡ with_number (a + b) s at v
-unfolding with_number
-with_number_joined a b s at v h =
-    rw (bytes_low a v, bytes_append a b v) (with_joined a b s at (bytes a v) (bytes b (v / 256 ^ a)) (length_bytes a v) (length_bytes b (v / 256 ^ a)) h)
-
--- ---- as code reads and writes: r is the answer whether the bytes lie within s
-
-module _ {r : Bool} (w : ℕ) (s : List ℕ) (at : ℕ) (e : r ≡ leb (at + w) (length s)) where
-  pub nothing_read : r ≡ false → 0 ≡ number_at w s at
-  nothing_read h = sym (number_none w s at (outside w (length s) at e h))
-
-  pub nothing_written : (v : ℕ) → r ≡ false → s ≡ with_number w s at v
-  nothing_written v h = sym (with_number_none w s at v (outside w (length s) at e h))
-
--- a number of twice the width a, by two of width a
-module _ {r : Bool} (a : ℕ) (s : List ℕ) (at : ℕ) (e : r ≡ leb (at + (a + a)) (length s)) (h : r ≡ true) where
-  pub halves_read : {low high : ℕ} → low ≡ number_at a s at → high ≡ number_at a s (at + a) → low + 256 ^ a * high ≡ number_at (a + a) s at
-  halves_read l k = rw (l, k) (sym (number_joined a a s at (inside (a + a) (length s) at e h)))
-
-  pub halves_written : (v : ℕ) {t u : List ℕ} → t ≡ with_number a s at (v % 256 ^ a) → u ≡ with_number a t (at + a) (v / 256 ^ a)
-      → u ≡ with_number (a + a) s at v
-  halves_written v p q = rw (q, p) (with_number_joined a a s at v (inside (a + a) (length s) at e h))
+-- as code writes: r is the answer whether the bytes lie within s
+pub nothing_written : {r : Bool} (w : ℕ) (s : List ℕ) (at : ℕ) → r ≡ leb (at + w) (length s) → (v : ℕ) → r ≡ false → s ≡ with_number w s at v
+nothing_written w s at e v h = sym (with_number_none w s at v (outside w (length s) at e h))
 
 pub length_with_number : (w : ℕ) (s : List ℕ) (at v : ℕ) → length (with_number w s at v) ≡ length s
 unfolding with_number

@@ -7,11 +7,9 @@ ghost use Rattle.endian.specs.Zero.{zeros, all_zero};
 pub fn is_zero(s: &[u8]) -> bool
     ensures { result ≡ all_zero s.now }
 {
-    let mut joined: u8 = 0;
-    let mut i = 0;
-    while i < s.len() {
-        joined = joined | s[i];
-        i += 1;
+    let mut joined = 0;
+    for b in s {
+        joined |= b;
     }
     joined == 0
 }
@@ -21,9 +19,5 @@ pub fn is_zero(s: &[u8]) -> bool
 pub fn clear(s: &mut [u8])
     ensures { s.new ≡ zeros (length s.old) }
 {
-    let mut k = 0;
-    while k < s.len() {
-        s[k] = 0;
-        k += 1;
-    }
+    s.fill(0);
 }

@@ -66,7 +66,7 @@ end_finishes x v p item e same = by_cond (λ a. Finishes v (note_of x x a)) (is_
     })
 
 -- a peer that was asked under this incarnation
-asked_peer : (p : Option Incarnation) (i : Incarnation) → option_eq same_incarnation p (Some i) ≡ true → p ≡ Some i
+pub asked_peer : (p : Option Incarnation) (i : Incarnation) → option_eq same_incarnation p (Some i) ≡ true → p ≡ Some i
 asked_peer None i e = absurd (false≢true e)
 asked_peer (Some o) i e = ap Some (same_incarnation_lem o i e)
 

@@ -15,8 +15,8 @@ use Rattle.returns.specs.Majority.{bit, count, count_first, count_beyond}
 use Rattle.returns.specs.Replace.{replaced, replaced_other, seen_set}
 use Rattle.protocol.specs.Node.{no_peers, peer_of, count_peers}
 use Rattle.protocol.specs.Sound.{every_from, peer_sound, peers_sound}
-use Rattle.std.specs.Prelude.{cond, Option, Some, None, is_some, unwrap_or}
-use Rattle.std.proofs.lemmas.List.Sums.{sum_by-cons}
+use Rattle.std.specs.Prelude.{Option, Some, None, is_some, unwrap_or}
+use Rattle.message.proofs.Counted as counted
 
 -- who is present, as flags, and under which incarnation
 abbrev pub present : List (Option Incarnation) → ℕ → Bool
@@ -52,11 +52,11 @@ none_present q = ap (λ (p : Option Incarnation). is_some p) (absent_replicated 
 -- a peer more in front
 pub count_none : (peers : List (Option Incarnation)) → count_peers (None ∷ peers) ≡ count_peers peers
 unfolding count_peers
-count_none peers = omega (arith, sum_by-cons (λ (p : Option Incarnation). cond (is_some p) 1 0) None peers)
+count_none peers = counted.count_none peers
 
 pub count_some : (i : Incarnation) (peers : List (Option Incarnation)) → count_peers (Some i ∷ peers) ≡ suc (count_peers peers)
 unfolding count_peers
-count_some i peers = omega (arith, sum_by-cons (λ (p : Option Incarnation). cond (is_some p) 1 0) (Some i) peers)
+count_some i peers = counted.count_some i peers
 
 -- counting the list is counting its flags
 pub count_peers_lem : (peers : List (Option Incarnation)) → count_peers peers ≡ count (present peers) (length peers)

@@ -2,13 +2,14 @@
 -- asked. An outgoing message is the one that `message_to` gives for some node `to`.
 use Prim.Native.Nat.{ℕ, zero, suc}
 use mathlib.Core.Path.{◌≡◌, refl, sym, ap, ◌∙◌, subst}
-use mathlib.Core.Logic.{◌⊎◌, inl, inr}
+use mathlib.Core.Logic.{◌⊎◌, inl, inr, ◌≢◌}
+use native.Mathlib.Omega.{arith}
 use mathlib.Core.Bool.{Bool, true, false, cond}
 use mathlib.Core.List.Memᴰ
 use mathlib.Core.List.{[], ◌∷◌, Memᴰ}
 use lib.Dec.{eqb, ltb}
 use Prim.Native.Nat.{◌<◌}
-use borrow.Author.Tests.{eqb-true, eq-eqb, ltb-true}
+use borrow.Author.Tests.{eqb-true, eqb-false, eq-eqb, ltb-true}
 use Rattle.item.specs.declared.Item.{Item}
 use Rattle.item.specs.declared.counters.Attempt.{Attempt}
 use Rattle.item.specs.declared.counters.Incarnation.{Incarnation}
@@ -71,45 +72,48 @@ outgoing_goes node s back e m =
     goes_lem node s back to e (sym h)
 
 each_outgoing : (P : Envelope → Type 0) (node : Node) (s : Sends) (back : ℕ)
-    → ((to : ℕ) (m : Message) → message_to s node back to ≡ Some m → P (envelope_to node to m))
+    → ((to : ℕ) → to < node.n → (m : Message) → message_to s node back to ≡ Some m → P (envelope_to node to m))
     → (e : Envelope) → Memᴰ (Some e) (outgoing node s back) → P e
 each_outgoing P node s back h e m =
     let g = outgoing_goes node s back e m in
-    subst P (sym g.envelope) (h g.to g.message g.sent)
+    subst P (sym g.envelope) (h g.to g.below g.message g.sent)
 
 -- nothing, one message to all others or back to the sender of the one delivered, or a Confirm to each peer asked
 module _ (P : Envelope → Type 0) (node : Node) (back : ℕ) where
   pub each_nothing : (e : Envelope) → Memᴰ (Some e) (outgoing node sends.Nothing back) → P e
   unfolding message_to
-  each_nothing = each_outgoing P node sends.Nothing back (λ to m h. clash (cc))
+  each_nothing = each_outgoing P node sends.Nothing back (λ to l m h. clash (cc))
 
-  pub each_other : (m : Message) → ((to : ℕ) → P (envelope_to node to m))
+  pub each_other : (m : Message) → ((to : ℕ) → to < node.n → to ≢ node.number → P (envelope_to node to m))
       → (e : Envelope) → Memᴰ (Some e) (outgoing node (sends.Others m) back) → P e
   unfolding message_to
   each_other m p = each_outgoing P node (sends.Others m) back
-      (λ to m'. by_cond (λ o. o ≡ Some m' → P (envelope_to node to m')) (eqb to node.number) _ _
+      (λ to l m'. by_cond (λ o. o ≡ Some m' → P (envelope_to node to m')) (eqb to node.number) _ _
       (λ e h. clash (cc))
-      (λ e h. let same : m ≡ m' = cc in subst (λ (b : Message). P (envelope_to node to b)) same (p to)))
+      (λ e h. let same : m ≡ m' = cc in
+      subst (λ (b : Message). P (envelope_to node to b)) same (p to l (eqb-false to node.number e))))
 
-  pub each_back : (m : Message) → P (envelope_to node back m)
+  pub each_back : (m : Message) → (back < node.n → P (envelope_to node back m))
       → (e : Envelope) → Memᴰ (Some e) (outgoing node (sends.Back m) back) → P e
   unfolding message_to
   each_back m p = each_outgoing P node (sends.Back m) back
-      (λ to m'. by_cond (λ o. o ≡ Some m' → P (envelope_to node to m')) (eqb to back) _ _
-      (λ e h. let same : m ≡ m' = cc in rw (eqb-true to back e) (subst (λ (b : Message). P (envelope_to node back b)) same p))
+      (λ to l m'. by_cond (λ o. o ≡ Some m' → P (envelope_to node to m')) (eqb to back) _ _
+      (λ e h. let same : m ≡ m' = cc in
+      let to_back : to ≡ back = eqb-true to back e in
+      rw to_back (subst (λ (b : Message). P (envelope_to node back b)) same (p (omega arith))))
       (λ e h. clash (cc)))
 
   pub each_asked : (a : Attempt) (i : Item)
-      → ((to : ℕ) (o : Incarnation) → peer_of node.asked to ≡ Some o → P (envelope_to node to (message.Confirm o a i)))
+      → ((to : ℕ) → to < node.n → (o : Incarnation) → peer_of node.asked to ≡ Some o → P (envelope_to node to (message.Confirm o a i)))
       → (e : Envelope) → Memᴰ (Some e) (outgoing node (sends.Asked a i) back) → P e
   unfolding message_to
-  each_asked a i p = each_outgoing P node (sends.Asked a i) back (λ to m. go to m (peer_of node.asked to) refl)
+  each_asked a i p = each_outgoing P node (sends.Asked a i) back (λ to l m. go to l m (peer_of node.asked to) refl)
     where
-      go : (to : ℕ) (m : Message) (q : Option Incarnation) → peer_of node.asked to ≡ q
+      go : (to : ℕ) → to < node.n → (m : Message) (q : Option Incarnation) → peer_of node.asked to ≡ q
           → option_map (λ other. message.Confirm other a i) q ≡ Some m → P (envelope_to node to m)
-      go to m None e h = clash (cc)
-      go to m (Some o) e h =
-          let same : message.Confirm o a i ≡ m = cc in subst (λ (b : Message). P (envelope_to node to b)) same (p to o e)
+      go to l m None e h = clash (cc)
+      go to l m (Some o) e h =
+          let same : message.Confirm o a i ≡ m = cc in subst (λ (b : Message). P (envelope_to node to b)) same (p to l o e)
 
 -- a message that concerns x only if p is x
 pub each_if_at : (P : ViewMessage → Type 0) (x p : ℕ) (m : ViewMessage) → (p ≡ x → P m) → Each P (if_at x p m)
@@ -133,7 +137,7 @@ module _ (f x : ℕ) (g : View) (k back : ℕ) (node : Node) (numbered : node.nu
   tied_store note c = record {
     changes = c;
     sending = each_other may_send node back _
-        (λ to. each_if_at _ x node.number _ (λ (own : node.number ≡ x). ap (λ (i : ℕ). (row_of node i).item) own));
+        (λ to l d. each_if_at _ x node.number _ (λ (own : node.number ≡ x). ap (λ (i : ℕ). (row_of node i).item) own));
   }
 
   -- Fetch to all others
@@ -141,7 +145,7 @@ module _ (f x : ℕ) (g : View) (k back : ℕ) (node : Node) (numbered : node.nu
   unfolding send_fetch ok
   tied_fetch note c = record {
     changes = c;
-    sending = each_other may_send node back _ (λ to. each_cons _ _ [] (numbered, refl) (each_nil _));
+    sending = each_other may_send node back _ (λ to l d. each_cons _ _ [] (numbered, refl) (each_nil _));
   }
 
   -- Confirm to the peers asked
@@ -151,7 +155,7 @@ module _ (f x : ℕ) (g : View) (k back : ℕ) (node : Node) (numbered : node.nu
   tied_confirm note c stage = record {
     changes = c;
     sending = each_asked may_send node back _ _
-        (λ to o e. each_if_at _ x node.number _ (λ (own : node.number ≡ x). (sym numbered ∙ own, stage, refl, refl)));
+        (λ to l o e. each_if_at _ x node.number _ (λ (own : node.number ≡ x). (sym numbered ∙ own, stage, refl, refl)));
   }
 
   -- a message back to the sender of the one delivered
@@ -161,8 +165,8 @@ module _ (f x : ℕ) (g : View) (k back : ℕ) (node : Node) (numbered : node.nu
   unfolding ok
   tied_back note m c h = record {
     changes = c;
-    sending = each_back may_send node back m
-        (subst (λ (s : ℕ). Each (MaySend x g k (seen x node)) (seen_as x m s back node.incarnation (row_items node))) (sym numbered) h);
+    sending = each_back may_send node back m (λ l.
+        subst (λ (s : ℕ). Each (MaySend x g k (seen x node)) (seen_as x m s back node.incarnation (row_items node))) (sym numbered) h);
   }
 
 -- a decision on a message from node `back`, with the note of its answer

@@ -22,12 +22,12 @@ length_cut size zero s = refl
 length_cut size (suc k) s = ap suc (length_cut size k (drop size s))
 
 -- a chunk that lies within, cut out
-get_or_cut : (size k : ℕ) (s : List ℕ) (i : ℕ) → i < k → get_or (cut size k s) i [] ≡ take size (drop (i * size) s)
+pub get_or_cut : (size k : ℕ) (s : List ℕ) (i : ℕ) (c : List ℕ) → i < k → get_or (cut size k s) i c ≡ take size (drop (i * size) s)
 unfolding cut
-get_or_cut size zero s i h = absurd (not-suc-le-zero h)
-get_or_cut size (suc k) s zero h = rw (zero-mul size)
-get_or_cut size (suc k) s (suc i) h =
-    get_or_cut size k (drop size s) i (le_of_suc-le-suc h)
+get_or_cut size zero s i c h = absurd (not-suc-le-zero h)
+get_or_cut size (suc k) s zero c h = rw (zero-mul size)
+get_or_cut size (suc k) s (suc i) c h =
+    get_or_cut size k (drop size s) i c (le_of_suc-le-suc h)
     ∙ ap (take size) (drop-drop (i * size) size s ∙ ap (λ (n : ℕ). drop n s) (add_comm size (i * size) ∙ sym (suc-mul i size)))
 
 within : (size k i len : ℕ) → i < k → len ≡ k * size → i * size + size ≤ len
@@ -37,7 +37,7 @@ within size k i len h e = rw e (ends_before size i k h)
 pub cut_chunk : (size k : ℕ) (s : List ℕ) (i : ℕ) → i < k → length s ≡ k * size → get_or (cut size k s) i [] ≡ chunk size s i
 unfolding chunk
 cut_chunk size k s i h e =
-    get_or_cut size k s i h ∙ sym (part_is size s (i * size) (within size k i (length s) h e))
+    get_or_cut size k s i [] h ∙ sym (part_is size s (i * size) (within size k i (length s) h e))
 
 -- and with another chunk for it
 pub cut_with : (size k : ℕ) (s : List ℕ) (i : ℕ) (c : List ℕ) → length c ≡ size → i < k → length s ≡ k * size

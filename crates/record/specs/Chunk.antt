@@ -1,5 +1,6 @@
 -- A list cut into chunks of one size, as the store is cut into records. The size is a parameter of every definition.
-use Rattle.std.specs.Prelude.{ℕ, zero, suc, ◌*◌, List, [], ◌∷◌, take, drop}
+use Rattle.std.specs.Prelude.{ℕ, ◌*◌, List}
+use Rattle.std.specs.Simd.{first_chunks}
 use Rattle.endian.specs.Part.{part, with_part}
 
 -- chunk i of s; none unless it lies whole within s
@@ -12,5 +13,4 @@ with_chunk size s i c = with_part size s (i * size) c
 
 -- the first k chunks of s, one after the other: for definitions that are to compute, since it goes through s once
 unfoldable pub cut : ℕ → ℕ → List ℕ → List (List ℕ)
-cut size zero s = []
-cut size (suc k) s = take size s ∷ cut size k (drop size s)
+cut size k s = first_chunks size k s

@@ -1,4 +1,7 @@
 // The bytes of one record: where each field stands. They are read in `record_read` and written in `record_write`.
+ghost use Rattle.std.specs.Prelude.{◌≡◌, ◌+◌, ◌*◌, ◌≤◌, MatchOption, SomeIff, []};
+ghost use Rattle.record.specs.Layout.{record_size, record_of};
+
 use item::Tag;
 
 // The bytes of a record.
@@ -25,3 +28,22 @@ pub const ROWS_AT: usize = 32;
 pub const INDEX_SIZE: usize = 8;
 
 pub const ROW_SIZE: usize = INDEX_SIZE + Tag::SIZE;
+
+// Record `i` of the bytes; none unless it lies whole within them.
+pub fn record_at(s: &[u8], i: usize) -> Option<&[u8; SIZE]>
+    ensures { MatchOption result (record_of s.now i ≡ []) (λ r. r.now ≡ record_of s.now i) }
+{
+    s.as_chunks().0.get(i)
+}
+
+// Where record `i` begins in so many bytes; none unless it lies whole within them.
+// Kept: a function that lends the record to be written, as `record_at` does to be read; its clause on what the bytes become got
+// no proof (tried over `split_at_mut_checked` and `first_chunk_mut`).
+pub fn start_of(len: usize, i: usize) -> Option<usize>
+    ensures { SomeIff result (i * record_size + record_size ≤ len) (i * record_size) }
+{
+    if len / SIZE <= i {
+        return None;
+    }
+    Some(i * SIZE)
+}

@@ -6,24 +6,23 @@ ghost use Rattle.record_read.specs.Ends.{ends_of};
 
 use crate::{fields, validity};
 
-// What reading the ends of a message gives.
+// The ends of a message.
 #[derive(Clone, Copy)]
-pub enum Ends {
-    Found { sender: usize, addressee: usize },
-    // No message: an unknown kind, or an unused byte that is not 0.
-    Fault,
+pub struct Ends {
+    pub sender: usize,
+    pub addressee: usize,
 }
 
-// The ends of the message in a record of a group of `n`, or a fault. Neither of the two is judged.
-pub fn read(r: &[u8], n: usize) -> Ends
+// The ends of the message in a record of a group of `n`, if it is one. Neither of the two is judged.
+pub fn read(r: &[u8], n: usize) -> Option<Ends>
     ensures { result ≡ ends_of (read_record n r.now) }
 {
     if !validity::is_readable(r, n) {
-        return Ends::Fault;
+        return None;
     }
     let fields = fields::read_fields(r);
-    Ends::Found {
+    Some(Ends {
         sender: fields.sender,
         addressee: fields.addressee,
-    }
+    })
 }

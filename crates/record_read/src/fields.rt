@@ -7,19 +7,10 @@ use item::{Attempt, Incarnation, Index, Item, Tag};
 use record::kinds::Fields;
 use record::layout;
 
-fn wide(x: u8) -> usize
-    ensures { result ≡ x }
-{
-    x as usize
-}
-
 fn byte_at(r: &[u8], at: usize) -> u8
     ensures { result ≡ get_or r.now at 0 }
 {
-    if r.len() <= at {
-        return 0;
-    }
-    r[at]
+    r.get(at).copied().unwrap_or(0)
 }
 
 #[tactic(auto, unfolding(record::specs::Layout::item_in))]
@@ -27,11 +18,9 @@ fn read_item(r: &[u8], at: usize) -> Item
     requires { at ≤ record_size }
     ensures { result ≡ item_in r.now at }
 {
-    let index = Index(endian::read_u64(r, at));
-    let tag = Tag(endian::read_u64(r, at + layout::INDEX_SIZE));
     Item {
-        index: index,
-        tag: tag,
+        index: Index(endian::read(r, at)),
+        tag: Tag(endian::read(r, at + layout::INDEX_SIZE)),
     }
 }
 
@@ -40,20 +29,15 @@ fn read_item(r: &[u8], at: usize) -> Item
 pub fn read_fields(r: &[u8]) -> Fields
     ensures { result ≡ fields_in r.now }
 {
-    let kind = byte_at(r, layout::KIND_AT);
-    let address = wide(byte_at(r, layout::ADDRESS_AT));
-    let incarnation = Incarnation(endian::read_u32(r, layout::INCARNATION_AT));
-    let other = Incarnation(endian::read_u32(r, layout::OTHER_AT));
-    let attempt = Attempt(endian::read_u32(r, layout::ATTEMPT_AT));
-    let item = read_item(r, layout::ITEM_AT);
+    let address = usize::from(byte_at(r, layout::ADDRESS_AT));
     Fields {
-        kind: kind,
+        kind: byte_at(r, layout::KIND_AT),
         sender: address / 16,
         addressee: address % 16,
-        incarnation: incarnation,
-        other: other,
-        attempt: attempt,
-        item: item,
+        incarnation: Incarnation(endian::read(r, layout::INCARNATION_AT)),
+        other: Incarnation(endian::read(r, layout::OTHER_AT)),
+        attempt: Attempt(endian::read(r, layout::ATTEMPT_AT)),
+        item: read_item(r, layout::ITEM_AT),
     }
 }
 
@@ -62,10 +46,8 @@ pub fn read_rows(r: &[u8]) -> [Item; item::MAX_NODES]
     ensures { result ≡ rows_of r.now }
 {
     let mut items = [Item::zero(); item::MAX_NODES];
-    let mut j = 0;
-    while j < item::MAX_NODES {
-        items[j] = read_item(r, layout::ROWS_AT + j * layout::ROW_SIZE);
-        j += 1;
+    for (j, row) in items.iter_mut().enumerate() {
+        *row = read_item(r, layout::ROWS_AT + j * layout::ROW_SIZE);
     }
     items
 }

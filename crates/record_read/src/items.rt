@@ -4,15 +4,14 @@ ghost use Rattle.record.specs.Layout.{record_of, rows_of};
 
 use crate::fields;
 use item::Item;
-use record::SIZE;
+use record::layout;
 
 // The fifteen rows of record `i`, used or not.
 pub fn rows(s: &[u8], i: usize) -> [Item; item::MAX_NODES]
     ensures { result ≡ rows_of (record_of s.now i) }
 {
-    if s.len() / SIZE <= i {
+    let Some(r) = layout::record_at(s, i) else {
         return [Item::zero(); item::MAX_NODES];
-    }
-    let a = i * SIZE;
-    fields::read_rows(&s[a..a + SIZE])
+    };
+    fields::read_rows(r)
 }

@@ -1,6 +1,6 @@
 // The message that the fields of a record say, and whether they say one.
 ghost use Rattle.std.specs.Prelude.{◌≡◌};
-ghost use Rattle.record.specs.Kind.{message_of, no_write, known_if};
+ghost use Rattle.record.specs.Kind.{message_of, no_write};
 ghost use Rattle.record_read.specs.Known.{is_known};
 
 use item::{Attempt, Incarnation, Item};
@@ -8,38 +8,29 @@ use message::Message;
 use record::kinds::{CONFIRM, CONFIRMED, FETCH, Fields, STORE, STORED, TABLE};
 
 // Whether there is neither attempt nor item.
-#[tactic(auto, unfolding(record::specs::Kind::no_write))]
+#[tactic(auto, unfolding(record::specs::Kind::no_write, item::specs::Counter::same_attempt, item::specs::Item::same_item, item::specs::Item::tags_agree))]
 fn no_write(attempt: Attempt, item: Item) -> bool
     ensures { result ≡ no_write attempt item }
 {
-    if !attempt.same(Attempt(0)) {
-        return false;
-    }
-    item.same(Item::zero())
-}
-
-fn known_if(ok: bool, message: Message) -> Option<Message>
-    ensures { result ≡ known_if ok message }
-{
-    if ok {
-        return Some(message);
-    }
-    None
+    attempt == Attempt(0) && item == Item::zero()
 }
 
 // The message that fields say, if its kind is known and what it does not use is 0.
-#[tactic(auto, unfolding(record::specs::Kind::message_of))]
+#[tactic(auto, unfolding(record::specs::Kind::message_of, item::specs::Counter::same_incarnation))]
 pub fn message_of(fields: Fields) -> Option<Message>
     ensures { result ≡ message_of fields }
 {
-    let kind = fields.kind;
-    let other = fields.other;
-    let attempt = fields.attempt;
-    let item = fields.item;
-    let no_other = other.same(Incarnation(0));
+    let Fields {
+        kind,
+        other,
+        attempt,
+        item,
+        ..
+    } = fields;
+    let no_other = other == Incarnation(0);
     let no_write = no_write(attempt, item);
     match kind {
-        STORE => known_if(no_other, Message::Store { attempt, item }),
+        STORE => no_other.then_some(Message::Store { attempt, item }),
         STORED => Some(Message::Stored {
             other,
             attempt,
@@ -55,37 +46,28 @@ pub fn message_of(fields: Fields) -> Option<Message>
             attempt,
             item,
         }),
-        FETCH => {
-            if !no_other {
-                return None;
-            }
-            known_if(no_write, Message::Fetch)
-        }
-        TABLE => known_if(no_write, Message::Table { other }),
+        FETCH => (no_other && no_write).then_some(Message::Fetch),
+        TABLE => no_write.then_some(Message::Table { other }),
         _ => None,
     }
 }
 
 // Whether the kind of fields is known and what it does not use is 0: as `message_of`, with no message built.
-#[tactic(auto, unfolding(crate::specs::Known::is_known, record::specs::Kind::message_of))]
+#[tactic(auto, using(crate::specs::Known::known_if_lem), unfolding(crate::specs::Known::is_known, record::specs::Kind::message_of, item::specs::Counter::same_incarnation))]
 pub fn is_known(fields: Fields) -> bool
     ensures { result ≡ is_known (message_of fields) }
 {
-    let kind = fields.kind;
-    let other = fields.other;
-    let attempt = fields.attempt;
-    let item = fields.item;
+    let Fields {
+        kind,
+        other,
+        attempt,
+        item,
+        ..
+    } = fields;
     match kind {
-        STORE => other.same(Incarnation(0)),
-        STORED => true,
-        CONFIRM => true,
-        CONFIRMED => true,
-        FETCH => {
-            if !other.same(Incarnation(0)) {
-                return false;
-            }
-            no_write(attempt, item)
-        }
+        STORE => other == Incarnation(0),
+        STORED | CONFIRM | CONFIRMED => true,
+        FETCH => other == Incarnation(0) && no_write(attempt, item),
         TABLE => no_write(attempt, item),
         _ => false,
     }

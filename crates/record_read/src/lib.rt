@@ -7,36 +7,32 @@ mod items;
 mod kind;
 mod validity;
 
-ghost use Rattle.std.specs.Prelude.{◌≡◌, length};
-ghost use Rattle.record.specs.Layout.{record_size, record_of};
+ghost use Rattle.std.specs.Prelude.{◌≡◌};
+ghost use Rattle.record.specs.Layout.{record_of};
 ghost use Rattle.record.specs.Record.{read_record};
 
 pub use fields::read_fields;
 pub use items::rows;
 pub use kind::is_known;
 use message::Envelope;
-use record::SIZE;
+use record::{SIZE, layout};
 pub use validity::{rows_of_kind, zero_after_rows};
 
 // The message in a record.
 #[tactic(auto, unfolding(record::specs::Record::read_record, record::specs::Record::read_as))]
-fn read_record(r: &[u8], n: usize) -> Option<Envelope>
-    requires { length r.now ≡ record_size }
+fn read_record(r: &[u8; SIZE], n: usize) -> Option<Envelope>
     ensures { result ≡ read_record n r.now }
 {
     let fields = fields::read_fields(r);
-    let Some(message) = kind::message_of(fields) else {
-        return None;
-    };
+    let message = kind::message_of(fields)?;
     if !validity::zero_after_rows(r, n) {
         return None;
     }
-    let incarnation = fields.incarnation;
     Some(Envelope {
         sender: fields.sender,
         addressee: fields.addressee,
-        incarnation: incarnation,
-        message: message,
+        incarnation: fields.incarnation,
+        message,
     })
 }
 
@@ -44,9 +40,5 @@ fn read_record(r: &[u8], n: usize) -> Option<Envelope>
 pub fn read(s: &[u8], i: usize, n: usize) -> Option<Envelope>
     ensures { result ≡ read_record n (record_of s.now i) }
 {
-    if s.len() / SIZE <= i {
-        return None;
-    }
-    let a = i * SIZE;
-    read_record(&s[a..a + SIZE], n)
+    read_record(layout::record_at(s, i)?, n)
 }

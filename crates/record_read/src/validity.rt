@@ -1,9 +1,9 @@
 // Whether the bytes of one record, as a slice of its own, are a message. No message is built, since a pass over a store asks
 // this of every record on an inbox chain.
-ghost use Rattle.std.specs.Prelude.{◌≡◌, ◌+◌, ◌*◌, ◌≤◌, length, drop};
+ghost use Rattle.std.specs.Prelude.{◌≡◌, ◌+◌, ◌*◌, ◌≤◌, drop};
 ghost use Rattle.item.specs.Maxima.{max_nodes};
 ghost use Rattle.endian.specs.Zero.{all_zero};
-ghost use Rattle.record.specs.Layout.{record_size, rows_at, row_size};
+ghost use Rattle.record.specs.Layout.{rows_at, row_size};
 ghost use Rattle.record_read.specs.Readable.{readable, rows_of_kind, zero_after_kind};
 
 use crate::{fields, kind};
@@ -19,26 +19,23 @@ pub fn rows_of_kind(kind: u8, n: usize) -> usize
     if kind != TABLE {
         return 0;
     }
-    if n < item::MAX_NODES {
-        return n;
-    }
-    item::MAX_NODES
+    n.min(item::MAX_NODES)
 }
 
 // Whether every byte after the first `held` rows of a record is 0. Where none is held, as in most messages, the first row is
 // tested by its two numbers, so that what is left is a fixed number of bytes, which the compiler tests in whole blocks.
-fn zero_from_row(r: &[u8], held: usize) -> bool
-    requires { (length r.now ≡ record_size) × (held ≤ max_nodes) }
+fn zero_from_row(r: &[u8; layout::SIZE], held: usize) -> bool
+    requires { held ≤ max_nodes }
     ensures { result ≡ all_zero (drop (rows_at + held * row_size) r.now) }
 {
     if held != 0 {
         let from = layout::ROWS_AT + held * layout::ROW_SIZE;
         return zeros::is_zero(&r[from..]);
     }
-    if endian::read_u64(r, layout::ROWS_AT) != 0 {
+    if endian::read::<u64>(r, layout::ROWS_AT) != 0 {
         return false;
     }
-    if endian::read_u64(r, layout::ROWS_AT + layout::INDEX_SIZE) != 0 {
+    if endian::read::<u64>(r, layout::ROWS_AT + layout::INDEX_SIZE) != 0 {
         return false;
     }
     zeros::is_zero(&r[layout::ROWS_AT + layout::ROW_SIZE..])
@@ -49,9 +46,9 @@ fn zero_from_row(r: &[u8], held: usize) -> bool
 pub fn zero_after_rows(r: &[u8], n: usize) -> bool
     ensures { result ≡ zero_after_kind n r.now }
 {
-    if r.len() != layout::SIZE {
+    let Ok(r) = <&[u8; layout::SIZE]>::try_from(r) else {
         return false;
-    }
+    };
     zero_from_row(r, rows_of_kind(r[layout::KIND_AT], n))
 }
 
@@ -59,8 +56,5 @@ pub fn zero_after_rows(r: &[u8], n: usize) -> bool
 pub fn is_readable(r: &[u8], n: usize) -> bool
     ensures { result ≡ readable n r.now }
 {
-    if !zero_after_rows(r, n) {
-        return false;
-    }
-    kind::is_known(fields::read_fields(r))
+    zero_after_rows(r, n) && kind::is_known(fields::read_fields(r))
 }

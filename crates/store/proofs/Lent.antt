@@ -3,7 +3,7 @@
 use Prim.Native.Nat.{ℕ, suc, ◌+◌, ◌-◌, ◌*◌, ◌≤◌, ◌<◌}
 use mathlib.Core.Path.{◌≡◌, sym, ap, ◌∙◌}
 use mathlib.Core.Logic.{◌≢◌}
-use mathlib.Core.Bool.{Bool, true, false}
+use mathlib.Core.Bool.{true, false}
 use mathlib.Core.List.{List, [], ◌++◌}
 use native.Mathlib.Omega.{arith}
 use borrow.Author.Tests.{eq-eqb, ne_eqb}
@@ -23,9 +23,7 @@ use Rattle.record.specs.Record.{with_next, no_record}
 use Rattle.store.specs.Records.{record_count, right_length, records_of, record_in, on_records}
 use Rattle.store.proofs.Joined.{records_count, joined_records}
 use Rattle.store.specs.Head.{free_at, spare_at, inbox_at, group_size, head_zero, with_first_free, with_first_of}
-use Rattle.store.specs.Chain.{next_in, walked, walk}
-use Rattle.store.specs.Sound.{belongs_on, followed}
-use Rattle.store.specs.declared.chain.Chain.{Chain}
+use Rattle.store.specs.Chain.{next_in}
 use Rattle.store.specs.Change.{with_next_in}
 
 -- ---- records
@@ -55,12 +53,6 @@ module _ (s : List ℕ) (long : length s ≡ record_count * record_size) where
   pub next_in_lem : (i : ℕ) → next_of (record_of s i) ≡ next_in (records_of s) i
   unfolding next_in
   next_in_lem i = ap next_of (sym (record_in_lem i))
-
-  -- a chain followed in bytes of the right length
-  pub followed_in : (chain : Chain) (n first : ℕ) (earlier : List Bool)
-      → followed chain n s first earlier ≡ walk (belongs_on chain n) record_count (records_of s) first earlier 0
-  unfolding followed
-  followed_in chain n first earlier = rw right
 
   length_in : (i : ℕ) → i < record_count → length (record_of s i) ≡ record_size
   length_in i h = length_record_of s i (omega arith)
@@ -93,12 +85,6 @@ module _ (s : List ℕ) (long : length s ≡ record_count * record_size) where
   pub records_clear : (i : ℕ) → records_of (with_record s i no_record) ≡ set (records_of s) i no_record
   unfolding no_record
   records_clear i = records_with i no_record (λ h. length_zeros record_size)
-
--- and in others
-pub followed_none : (chain : Chain) (n : ℕ) (s : List ℕ) (first : ℕ) (earlier : List Bool) → length s ≢ record_count * record_size
-    → followed chain n s first earlier ≡ walked false earlier 0
-unfolding followed right_length
-followed_none chain n s first earlier d = rw (ne_eqb (length s) (record_count * record_size) d)
 
 -- a record that is written as it is
 pub with_own : (s : List ℕ) (i : ℕ) → with_record s i (record_of s i) ≡ s

@@ -1,6 +1,6 @@
 -- Chains (document 01: "Records are chained by a next index, and zero ends the chain"). A chain is followed for at most as
 -- many records as there are, so every definition ends whatever the bytes are.
-use Rattle.std.specs.Prelude.{ℕ, zero, suc, Bool, true, false, cond, List, [], ◌∷◌, eqb, get_or, set}
+use Rattle.std.specs.Prelude.{ℕ, zero, suc, Bool, true, cond, List, [], ◌∷◌, eqb, get_or, set, None, Option, Some}
 use Rattle.record.specs.Layout.{next_of}
 use Rattle.store.specs.Records.{record_in}
 use Rattle.store.specs.declared.Walked.{Walked}
@@ -26,15 +26,15 @@ before_from (suc left) rs r i =
     cond (eqb i 0) 0
     (cond (eqb (next_in rs i) r) i (before_from left rs r (next_in rs i)))
 
-abbrev pub walked : Bool → List Bool → ℕ → Walked
-walked ok passed count = record { ok = ok; passed = passed; count = count }
+abbrev pub walked : List Bool → ℕ → Walked
+walked passed count = record { passed = passed; count = count }
 
--- a chain is followed from record i: every record on it is there, was not passed before, and belongs on it. `count` of
--- its records were passed already, and `left` more may be.
-unfoldable pub walk : (List ℕ → Bool) → ℕ → List (List ℕ) → ℕ → List Bool → ℕ → Walked
-walk belongs zero rs i passed count = walked (eqb i 0) passed count
+-- a chain is followed from record i to its end: every record on it is there, was not passed before, and belongs on it.
+-- `count` of its records were passed already, and `left` more may be.
+unfoldable pub walk : (List ℕ → Bool) → ℕ → List (List ℕ) → ℕ → List Bool → ℕ → Option Walked
+walk belongs zero rs i passed count = cond (eqb i 0) (Some (walked passed count)) None
 walk belongs (suc left) rs i passed count =
-    cond (eqb i 0) (walked true passed count)
-    (cond (get_or passed i true) (walked false passed count)
+    cond (eqb i 0) (Some (walked passed count))
+    (cond (get_or passed i true) None
     (cond (belongs (record_in rs i)) (walk belongs left rs (next_in rs i) (set passed i true) (suc count))
-    (walked false passed count)))
+    None))

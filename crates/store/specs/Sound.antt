@@ -4,9 +4,9 @@
 use Rattle.std.specs.Prelude.{ℕ, zero, suc, Bool, true, false, cond, not, ◌&&◌, List, [], ◌∷◌, eqb, ltb, length, replicate, set, None, Option, Some}
 use Rattle.item.specs.Maxima.{valid_size}
 use Rattle.record.specs.Record.{read_record, zero_after_next}
-use Rattle.store.specs.Records.{record_count, right_length, records_of, record_in}
+use Rattle.store.specs.Records.{right_length, records_of, record_in}
 use Rattle.store.specs.Head.{first_free, group_size, first_of, head_zero}
-use Rattle.store.specs.Chain.{walked, walk}
+use Rattle.store.specs.Chain.{walk}
 use Rattle.store.specs.declared.Survey.{Survey}
 use Rattle.store.specs.declared.chain.Chain.{Chain}
 use Rattle.store.specs.declared.chain.Chain.TheVariants.{Free, Inbox}
@@ -27,18 +27,12 @@ unfoldable pub belongs_on : Chain → ℕ → List ℕ → Bool
 belongs_on Free n r = zero_after_next r
 belongs_on (Inbox owner) n r = belongs_to n owner r
 
--- a chain of bytes that may be no store: in such bytes there is none
-unfoldable pub followed : Chain → ℕ → List ℕ → ℕ → List Bool → Walked
-followed chain n s first earlier =
-    cond (right_length s) (walk (belongs_on chain n) record_count (records_of s) first earlier 0) (walked false earlier 0)
-
 -- the inboxes of the nodes from k on, `left` of them, one after the other
-unfoldable pub walk_inboxes : ℕ → ℕ → List (List ℕ) → ℕ → Walked → Walked
+unfoldable pub walk_inboxes : ℕ → ℕ → List (List ℕ) → ℕ → Option Walked → Option Walked
 walk_inboxes zero n rs k w = w
-walk_inboxes (suc left) n rs k w =
-    cond w.ok
-    (walk_inboxes left n rs (suc k) (walk (belongs_to n k) (length rs) rs (first_of rs k) w.passed 0))
-    w
+walk_inboxes (suc left) n rs k None = None
+walk_inboxes (suc left) n rs k (Some w) =
+    walk_inboxes left n rs (suc k) (walk (belongs_to n k) (length rs) rs (first_of rs k) w.passed 0)
 
 -- every record is passed
 unfoldable pub all_passed : List Bool → Bool
@@ -50,12 +44,13 @@ unfoldable pub head_passed : ℕ → List Bool
 head_passed count = set (replicate count false) 0 true
 
 -- the free chain
-unfoldable pub walk_free : List (List ℕ) → Walked
+unfoldable pub walk_free : List (List ℕ) → Option Walked
 walk_free rs = walk zero_after_next (length rs) rs (first_free rs) (head_passed (length rs)) 0
 
 -- every chain ended well, and no record was left out
-unfoldable pub all_on_chains : Walked → Bool
-all_on_chains w = w.ok && all_passed w.passed
+unfoldable pub all_on_chains : Option Walked → Bool
+all_on_chains None = false
+all_on_chains (Some w) = all_passed w.passed
 
 unfoldable pub sound_records : List (List ℕ) → Bool
 sound_records rs =
@@ -66,9 +61,14 @@ sound_records rs =
 unfoldable pub sound_store : List ℕ → Bool
 sound_store s = right_length s && sound_records (records_of s)
 
+-- how many records the last chain has
+unfoldable pub last_count : Option Walked → ℕ
+last_count None = 0
+last_count (Some w) = w.count
+
 -- how many records are free
 unfoldable pub free_count : List (List ℕ) → ℕ
-free_count rs = (walk_free rs).count
+free_count rs = last_count (walk_free rs)
 
 -- the message in record r: on an inbox chain of a sound store exactly the records 1 and up that read as one
 unfoldable pub message_in : List (List ℕ) → ℕ → Option Envelope
@@ -78,13 +78,9 @@ message_in rs r = cond (eqb r 0) None (read_record (group_size rs) (record_in rs
 unfoldable pub message_at : List ℕ → ℕ → Option Envelope
 message_at s r = cond (right_length s) (message_in (records_of s) r) None
 
--- of an unsound store nothing is found but that
-abbrev pub unsound : Survey
-unsound = record { sound = false; n = 0; free = 0 }
+-- what one pass finds: of an unsound store nothing but that
+unfoldable pub survey_of : List (List ℕ) → Option Survey
+survey_of rs = cond (sound_records rs) (Some (record { n = group_size rs; free = free_count rs })) None
 
--- what one pass finds
-unfoldable pub survey_of : List (List ℕ) → Survey
-survey_of rs = cond (sound_records rs) (record { sound = true; n = group_size rs; free = free_count rs }) unsound
-
-unfoldable pub survey : List ℕ → Survey
-survey s = cond (right_length s) (survey_of (records_of s)) unsound
+unfoldable pub survey : List ℕ → Option Survey
+survey s = cond (right_length s) (survey_of (records_of s)) None

@@ -10,21 +10,18 @@ pub const RECORDS: usize = 240;
 // The bytes of a store.
 pub const LENGTH: usize = RECORDS * record::SIZE;
 
-// The chains followed so far.
+// Chains followed to their ends: none met a record twice, a record that is not there, or one that does not belong on it.
 #[derive(Clone, Copy)]
 pub struct Walked {
-    // No chain met a record twice, a record that is not there, or one that does not belong on it.
-    pub ok: bool,
     // The records that chains passed.
     pub passed: [bool; RECORDS],
     // How many records the last chain has.
     pub count: usize,
 }
 
-// What one pass over the store finds.
+// What one pass over a sound store finds.
 #[derive(Clone, Copy)]
 pub struct Survey {
-    pub sound: bool,
     // The group's size that the head gives.
     pub n: usize,
     // The free records.

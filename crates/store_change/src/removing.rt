@@ -1,46 +1,34 @@
 // A message dropped from a store over lent bytes. Bytes that are not as long as a store stay as they are; whatever a store's
 // bytes are, every call ends and stays inside them.
-ghost use Rattle.std.specs.Prelude.{◌≡◌, ◌*◌, length};
-ghost use Rattle.record.specs.Layout.{record_size};
+ghost use Rattle.std.specs.Prelude.{◌≡◌};
 ghost use Rattle.store.specs.Records.{record_count, records_of, on_records};
 ghost use Rattle.store.specs.Chain.{before_from};
 ghost use Rattle.store.specs.Change.{unlinked, freed, drop_in};
 
-use std::num::wrapping_add_usize;
-use store_access::{head, links, stride};
+use store_access::stride::Place;
+use store_access::{head, links};
 
 // The record before record `r` on the chain from record `first`, 0 if there is none.
-fn before_from(s: &[u8], r: usize, first: usize) -> usize
-    requires { length s.now ≡ record_count * record_size }
+fn before_from(s: &[u8; store::LENGTH], r: usize, first: usize) -> usize
     ensures { result ≡ before_from record_count (records_of s.now) r first }
 {
-    let mut i = first;
-    let mut step = 1;
-    let mut left = store::RECORDS;
-    while 0 < left {
+    let mut place = Place::first(first);
+    for _ in 0..store::RECORDS {
+        let i = place.at;
         if i == 0 {
             return 0;
         }
-        let guess = wrapping_add_usize(i, step);
-        let after = links::next(s, i);
-        if after == r {
+        place.go_on(s);
+        if place.at == r {
             return i;
         }
-        left -= 1;
-        if after == guess {
-            i = guess;
-            continue;
-        }
-        step = stride::between(i, after);
-        i = after;
     }
     0
 }
 
 // Record `r` no longer stands on node `k`'s inbox.
 #[tactic(auto, unfolding(store::specs::Change::unlinked))]
-fn unlink(s: &mut [u8], k: usize, r: usize)
-    requires { length s.old ≡ record_count * record_size }
+fn unlink(s: &mut [u8; store::LENGTH], k: usize, r: usize)
     ensures { records_of s.new ≡ unlinked (records_of s.old) k r }
 {
     let first = head::first_of(s, k);
@@ -55,8 +43,7 @@ fn unlink(s: &mut [u8], k: usize, r: usize)
 
 // Record `r` is cleared and becomes the first free record.
 #[tactic(auto, unfolding(store::specs::Change::freed))]
-fn free(s: &mut [u8], r: usize)
-    requires { length s.old ≡ record_count * record_size }
+fn free(s: &mut [u8; store::LENGTH], r: usize)
     ensures { records_of s.new ≡ freed (records_of s.old) r }
 {
     let first = head::first_free(s);
@@ -66,13 +53,12 @@ fn free(s: &mut [u8], r: usize)
 }
 
 // Record `r` leaves the inbox of `owner`, is cleared and becomes the first free record.
-#[tactic(auto, unfolding(store::specs::Change::drop_in))]
 pub fn drop_message(s: &mut [u8], owner: usize, r: u64)
     ensures { s.new ≡ on_records (λ rs. drop_in rs owner r) s.old }
 {
-    if s.len() != store::LENGTH {
+    let Some(store) = s.as_mut_array() else {
         return;
-    }
-    unlink(s, owner, r as usize);
-    free(s, r as usize);
+    };
+    unlink(store, owner, r as usize);
+    free(store, r as usize);
 }

@@ -1,25 +1,17 @@
 // One chain of a store followed from its first record on, each record judged as it is passed. The marks of the records
 // passed are lent: a copy of them would take longer than a short chain.
-ghost use Rattle.std.specs.Prelude.{◌≡◌};
+ghost use Rattle.std.specs.Prelude.{◌≡◌, option_map};
 ghost use Rattle.record.specs.Layout.{record_of};
-ghost use Rattle.store.specs.Chain.{walked};
-ghost use Rattle.store.specs.Sound.{belongs_to, followed};
-ghost use Rattle.store.specs.declared.chain.Chain.TheVariants.{Free, Inbox};
+ghost use Rattle.store.specs.Records.{record_count, records_of};
+ghost use Rattle.store.specs.Chain.{walked, walk};
+ghost use Rattle.store.specs.Sound.{belongs_to, belongs_on};
 
 use record::SIZE;
 use record_read::endpoints;
 use record_read::endpoints::Ends;
-use std::num::wrapping_add_usize;
-use store_access::{links, stride};
-
-// What a chain comes to.
-#[derive(Clone, Copy)]
-pub struct Followed {
-    // It met no record twice, none that is not there, and none that does not belong on it.
-    pub ok: bool,
-    // How many records it has.
-    pub count: usize,
-}
+use store::chain::Chain;
+use store_access::links;
+use store_access::stride::Place;
 
 // Whether a record is a message to `owner` from another node of a group of `n`.
 #[tactic(auto, unfolding(crate::proofs::Belonging::from_another))]
@@ -50,92 +42,47 @@ fn belongs_to(s: &[u8], i: usize, n: usize, owner: usize) -> bool
     message_to(&s[a..a + SIZE], n, owner)
 }
 
-// The free chain from record `first` is followed to its end, or to a record that is not there, was passed before or is not
-// zero after next.
+// Whether record `i` belongs on a chain of a group of `n`.
 #[tactic(auto, unfolding(store::specs::Sound::belongs_on))]
-pub fn follow_free(s: &[u8], first: usize, passed: &mut [bool]) -> Followed
-    ensures { walked result.ok passed.new result.count ≡ followed Free 0 s.now first passed.old }
+fn belongs_on(s: &[u8], i: usize, chain: Chain, n: usize) -> bool
+    ensures { result ≡ belongs_on chain n (record_of s.now i) }
 {
-    if s.len() != store::LENGTH {
-        return Followed {
-            ok: false,
-            count: 0,
-        };
-    }
-    let mut i = first;
-    let mut step = 1;
-    let mut count = 0;
-    while count < store::RECORDS {
-        if i == 0 {
-            break;
-        }
-        if passed.len() <= i {
-            break;
-        }
-        let guess = wrapping_add_usize(i, step);
-        if passed[i] {
-            break;
-        }
-        if !links::zero_after_next(s, i) {
-            break;
-        }
-        passed[i] = true;
-        count += 1;
-        let after = links::next(s, i);
-        if after == guess {
-            i = guess;
-            continue;
-        }
-        step = stride::between(i, after);
-        i = after;
-    }
-    Followed {
-        ok: i == 0,
-        count: count,
+    match chain {
+        Chain::Free => links::zero_after_next(s, i),
+        Chain::Inbox(owner) => belongs_to(s, i, n, owner),
     }
 }
 
-// The inbox of `owner` in a group of `n` from record `first` is followed to its end, or to a record that is not there, was
-// passed before or is no message to `owner` from another node.
-#[tactic(auto, unfolding(store::specs::Sound::belongs_on))]
-pub fn follow_inbox(s: &[u8], first: usize, n: usize, owner: usize, passed: &mut [bool]) -> Followed
-    ensures { walked result.ok passed.new result.count ≡ followed (Inbox owner) n s.now first passed.old }
+// A chain of a group of `n` from record `first` is followed to its end: how many records it has, or nothing where it comes to a
+// record that is not there, was passed before or does not belong on it.
+pub fn follow(
+    s: &[u8; store::LENGTH],
+    chain: Chain,
+    n: usize,
+    first: usize,
+    passed: &mut [bool; store::RECORDS],
+) -> Option<usize>
+    ensures { option_map (walked passed.new) result ≡ walk (belongs_on chain n) record_count (records_of s.now) first passed.old 0 }
 {
-    if s.len() != store::LENGTH {
-        return Followed {
-            ok: false,
-            count: 0,
-        };
+    let mut place = Place::first(first);
+    for count in 0..store::RECORDS {
+        if place.at == 0 {
+            return Some(count);
+        }
+        if store::RECORDS <= place.at {
+            return None;
+        }
+        if passed[place.at] {
+            return None;
+        }
+        if !belongs_on(s, place.at, chain, n) {
+            return None;
+        }
+        passed[place.at] = true;
+        place.go_on(s);
     }
-    let mut r = first;
-    let mut step = 1;
-    let mut count = 0;
-    while count < store::RECORDS {
-        if r == 0 {
-            break;
-        }
-        if passed.len() <= r {
-            break;
-        }
-        let guess = wrapping_add_usize(r, step);
-        if passed[r] {
-            break;
-        }
-        if !belongs_to(s, r, n, owner) {
-            break;
-        }
-        passed[r] = true;
-        count += 1;
-        let after = links::next(s, r);
-        if after == guess {
-            r = guess;
-            continue;
-        }
-        step = stride::between(r, after);
-        r = after;
+    if place.at != 0 {
+        return None;
     }
-    Followed {
-        ok: r == 0,
-        count: count,
-    }
+    Some(store::RECORDS)
 }

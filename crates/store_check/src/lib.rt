@@ -3,22 +3,20 @@
 
 mod chain;
 
-ghost use Rattle.std.specs.Prelude.{◌≡◌, ◌*◌, length};
-ghost use Rattle.record.specs.Layout.{record_size};
+ghost use Rattle.std.specs.Prelude.{◌≡◌, ℕ, Some, option_map};
 ghost use Rattle.store.specs.Records.{record_count, records_of};
 ghost use Rattle.store.specs.Head.{head_zero};
 ghost use Rattle.store.specs.Chain.{walked};
-ghost use Rattle.store.specs.Sound.{walk_inboxes, all_passed, head_passed, survey};
+ghost use Rattle.store.specs.Sound.{walk_inboxes, all_passed, head_passed, survey_of, survey};
 
-use chain::Followed;
 use endian::zeros;
 use store::Survey;
+use store::chain::Chain;
 use store_access::head;
 
 // Whether the head is zero where no field of a group of its size stands.
 #[tactic(auto, unfolding(store::specs::Head::inbox_at))]
-fn head_zero(s: &[u8]) -> bool
-    requires { length s.now ≡ record_count * record_size }
+fn head_zero(s: &[u8; store::LENGTH]) -> bool
     ensures { result ≡ head_zero (records_of s.now) }
 {
     if s[head::SPARE_AT] != 0 {
@@ -43,21 +41,19 @@ fn head_passed() -> [bool; store::RECORDS]
 }
 
 // The inboxes, one after the other, as long as all is well.
-fn follow_inboxes(s: &[u8], n: usize, free: Followed, passed: &mut [bool]) -> Followed
-    requires { length s.now ≡ record_count * record_size }
-    ensures { walked result.ok passed.new result.count ≡ walk_inboxes n n (records_of s.now) 0 (walked free.ok passed.old free.count) }
+fn follow_inboxes(
+    s: &[u8; store::LENGTH],
+    n: usize,
+    free: usize,
+    passed: &mut [bool; store::RECORDS],
+) -> Option<usize>
+    ensures { option_map (walked passed.new) result ≡ walk_inboxes n n (records_of s.now) 0 (Some (walked passed.old free)) }
 {
     let mut last = free;
-    let mut k = 0;
-    while k < n {
-        if !last.ok {
-            return last;
-        }
-        let first = head::first_of(s, k);
-        last = chain::follow_inbox(s, first, n, k, passed);
-        k += 1;
+    for k in 0..n {
+        last = chain::follow(s, Chain::Inbox(k), n, head::first_of(s, k), passed)?;
     }
-    last
+    Some(last)
 }
 
 // Whether every record was passed. All are compared, by one branch-free loop, which the compiler vectorises.
@@ -66,47 +62,40 @@ fn all_passed(passed: &[bool]) -> bool
     ensures { result ≡ all_passed passed.now }
 {
     let mut all = true;
-    let mut i = 0;
-    while i < passed.len() {
-        all = all & passed[i];
-        i += 1;
+    for p in passed {
+        all &= *p;
     }
     all
 }
 
-// Whether these bytes are a sound store, and if so the size of its group and how many records are free.
-#[tactic(auto, unfolding(store::specs::Sound::survey, store::specs::Records::right_length))]
-pub fn check_store(s: &[u8]) -> Survey
-    ensures { result ≡ survey s.now }
+// Whether a store is sound, and if so the size of its group and how many records are free.
+#[tactic(auto, unfolding(store::specs::Sound::survey_of))]
+fn check_records(s: &[u8; store::LENGTH]) -> Option<Survey>
+    ensures { result ≡ survey_of (records_of s.now) }
 {
-    let unsound = Survey {
-        sound: false,
-        n: 0,
-        free: 0,
-    };
-    if s.len() != store::LENGTH {
-        return unsound;
-    }
     let n = head::group_size(s);
     if !item::valid_size(n) {
-        return unsound;
+        return None;
     }
     if !head_zero(s) {
-        return unsound;
+        return None;
     }
     let mut passed = head_passed();
-    let first = head::first_free(s);
-    let free = chain::follow_free(s, first, &mut passed);
-    let last = follow_inboxes(s, n, free, &mut passed);
-    if !last.ok {
-        return unsound;
-    }
+    let free = chain::follow(s, Chain::Free, n, head::first_free(s), &mut passed)?;
+    follow_inboxes(s, n, free, &mut passed)?;
     if !all_passed(&passed) {
-        return unsound;
+        return None;
     }
-    Survey {
-        sound: true,
-        n: n,
-        free: free.count,
+    Some(Survey { n, free })
+}
+
+// Whether these bytes are a sound store, and if so the size of its group and how many records are free.
+#[tactic(auto, unfolding(store::specs::Sound::survey, store::specs::Records::right_length))]
+pub fn check_store(s: &[u8]) -> Option<Survey>
+    ensures { result ≡ survey s.now }
+{
+    match s.as_array() {
+        Some(store) => check_records(store),
+        None => None,
     }
 }

@@ -1,22 +1,23 @@
 -- The executable definition of a sound store means what document 01 says of its records: the law goes both ways.
 use Prim.Native.Nat.{ℕ, ◌+◌, ◌≤◌, ◌<◌}
-use mathlib.Core.Path.{◌≡◌, sym, subst, ◌∙◌}
-use mathlib.Core.Bool.{true}
+use mathlib.Core.Path.{◌≡◌, refl, sym, ap, subst, ◌∙◌}
+use mathlib.Core.Bool.{true, false≢true}
 use mathlib.Core.List.{List}
 use native.Mathlib.Omega.{arith}
 use lib.ListN.{length}
+use Rattle.std.specs.Prelude.{None, Option, Some}
 use Rattle.item.specs.Maxima.{valid_size}
 use Rattle.item.specs.Tests.{and_left, and_right, and_both}
 use Rattle.endian.proofs.PartLaws.{by_order}
 use Rattle.record.specs.Record.{zero_after_next}
 use Rattle.store.specs.declared.Walked.{Walked}
 use Rattle.store.specs.Head.{first_free, group_size, first_of, head_zero}
-use Rattle.store.specs.Sound.{walk_inboxes, all_passed, head_passed, walk_free, all_on_chains, sound_records, free_count}
+use Rattle.store.specs.Sound.{walk_inboxes, all_passed, head_passed, walk_free, all_on_chains, last_count, sound_records, free_count}
 use Rattle.store_laws.specs.Lists.{times, times_on, free_list, inbox_list}
 use Rattle.store_laws.specs.Standing.{IsChain, standing, OnChains, SoundMeans}
 use Rattle.store_laws.proofs.Times.{by_same, times_on_same, stands_on, stands_where, length_most}
 use Rattle.store_laws.proofs.Leads.{chain_from_lem, never_zero}
-use Rattle.store_laws.proofs.Walk.{mark, Followed, FollowedAll, walk_chain, chain_walk, inboxes_chains, chains_inboxes, head_marks, head_passed_lem, beyond_passed, all_passed_lem, passed_all}
+use Rattle.store_laws.proofs.Walk.{mark, Gives, Followed, FollowedAll, walk_chain, chain_walk, followed_all, chains_inboxes, head_marks, head_passed_lem, beyond_passed, all_passed_lem, passed_all}
 
 -- ---- there is one way only
 
@@ -78,7 +79,7 @@ unfolding sound_records
 sound_head rs e = and_left (head_zero rs) _ (and_right (valid_size (group_size rs)) _ e)
 
 -- the free chain followed, and then all inboxes
-abbrev all_followed : List (List ℕ) → Walked
+abbrev all_followed : List (List ℕ) → Option Walked
 all_followed rs = walk_inboxes (group_size rs) (group_size rs) rs 0 (walk_free rs)
 
 module _ (rs : List (List ℕ)) (e : sound_records rs ≡ true) where
@@ -86,19 +87,24 @@ module _ (rs : List (List ℕ)) (e : sound_records rs ≡ true) where
   unfolding sound_records
   all_on_chains_lem = and_right (head_zero rs) _ (and_right (valid_size (group_size rs)) _ e)
 
-  inboxes_followed : FollowedAll (group_size rs) rs (group_size rs) 0 (walk_free rs) (all_followed rs)
+  ends : (w : Walked) × (all_followed rs ≡ Some w) × (all_passed w.passed ≡ true)
   unfolding all_on_chains
-  inboxes_followed = inboxes_chains (group_size rs) rs (group_size rs) 0 (walk_free rs) (and_left (all_followed rs).ok (all_passed (all_followed rs).passed) all_on_chains_lem)
+  ends = go (all_followed rs) all_on_chains_lem
+    where
+      go : (o : Option Walked) → all_on_chains o ≡ true → (w : Walked) × (o ≡ Some w) × (all_passed w.passed ≡ true)
+      go None z = absurd (false≢true z)
+      go (Some w) z = (w, refl, z)
 
-  free_followed : Followed zero_after_next (length rs) rs (first_free rs) (head_passed (length rs)) 0 (walk_free rs) (free_list rs)
+  inboxes_followed : FollowedAll (group_size rs) rs (group_size rs) 0 (walk_free rs) ends.0
+  inboxes_followed = followed_all (group_size rs) rs (group_size rs) 0 (walk_free rs) ends.0 ends.1
+
+  free_followed : Followed zero_after_next (length rs) rs (first_free rs) (head_passed (length rs)) 0 inboxes_followed.first (free_list rs)
   unfolding walk_free free_list
-  free_followed = walk_chain zero_after_next rs (length rs) (first_free rs) (head_passed (length rs)) 0 inboxes_followed.before
+  free_followed = walk_chain zero_after_next rs (length rs) (first_free rs) (head_passed (length rs)) 0 inboxes_followed.first inboxes_followed.before
 
   -- at the end every record was passed
   all_marks : (r : ℕ) → mark (head_passed (length rs)) r + standing rs (free_list rs) (inbox_list rs) r ≡ 1
-  unfolding all_on_chains
-  all_marks r =
-      omega (arith, free_followed.marks r, inboxes_followed.marks r, all_passed_lem (all_followed rs).passed (and_right (all_followed rs).ok (all_passed (all_followed rs).passed) all_on_chains_lem) r)
+  all_marks r = omega (arith, free_followed.marks r, inboxes_followed.marks r, all_passed_lem ends.0.passed ends.2 r)
 
   -- the records of a sound store stand on chains as document 01 says
   pub sound_chains : OnChains rs (free_list rs) (inbox_list rs)
@@ -114,8 +120,8 @@ module _ (rs : List (List ℕ)) (e : sound_records rs ≡ true) where
 
   -- how many records are free
   pub free_count_lem : free_count rs ≡ length (free_list rs)
-  unfolding free_count
-  free_count_lem = omega (arith, free_followed.counted)
+  unfolding free_count last_count
+  free_count_lem = ap last_count inboxes_followed.before ∙ omega (arith, free_followed.counted)
 
 -- and records that do are sound
 module _ {rs : List (List ℕ)} (c : OnChains rs (free_list rs) (inbox_list rs)) where
@@ -127,32 +133,33 @@ module _ {rs : List (List ℕ)} (c : OnChains rs (free_list rs) (inbox_list rs))
       (λ h. omega (arith, c.no_other r h, beyond_passed (length rs) r h))
       (λ h. omega (arith, c.once r d h, head_marks (length rs) r d h)))
 
-  free_ok : (walk_free rs).ok ≡ true
+  free_ok : Gives (walk_free rs)
   unfolding walk_free
   free_ok =
       chain_walk zero_after_next rs (free_list rs) (length rs) (first_free rs) (head_passed (length rs)) 0
       c.free_chain (free_short c) c.free_zero (λ r. omega (arith, marked r))
 
-  free_marks : (r : ℕ) → mark (walk_free rs).passed r ≡ mark (head_passed (length rs)) r + times r (free_list rs)
+  free_marks : (w : Walked) → walk_free rs ≡ Some w → (r : ℕ) → mark w.passed r ≡ mark (head_passed (length rs)) r + times r (free_list rs)
   unfolding walk_free free_list
-  free_marks = (walk_chain zero_after_next rs (length rs) (first_free rs) (head_passed (length rs)) 0 free_ok).marks
+  free_marks w e = (walk_chain zero_after_next rs (length rs) (first_free rs) (head_passed (length rs)) 0 w e).marks
 
-  inboxes_ok : (all_followed rs).ok ≡ true
+  inboxes_ok : Gives (all_followed rs)
   inboxes_ok =
-      chains_inboxes (group_size rs) rs (group_size rs) 0 (walk_free rs) free_ok
+      subst (λ (o : Option Walked). Gives (walk_inboxes (group_size rs) (group_size rs) rs 0 o)) (sym free_ok.1)
+      (chains_inboxes (group_size rs) rs (group_size rs) 0 free_ok.0
       (record {
         chain = λ k _ h. c.inbox_chain k (omega arith);
         each = λ k _ h. c.inbox_owned k (omega arith);
         short = λ k _ h. inbox_short c k (omega arith);
       })
-      (λ r. omega (arith, free_marks r, marked r))
+      (λ r. omega (arith, free_marks free_ok.0 free_ok.1 r, marked r)))
 
   all_ok : all_on_chains (all_followed rs) ≡ true
   unfolding all_on_chains
   all_ok =
-      and_both inboxes_ok
-      (passed_all (all_followed rs).passed
-      (λ r. omega (arith, (inboxes_chains (group_size rs) rs (group_size rs) 0 (walk_free rs) inboxes_ok).marks r, free_marks r, marked r)))
+      let f = followed_all (group_size rs) rs (group_size rs) 0 (walk_free rs) inboxes_ok.0 inboxes_ok.1 in
+      ap all_on_chains inboxes_ok.1
+      ∙ passed_all inboxes_ok.0.passed (λ r. omega (arith, f.marks r, free_marks f.first f.before r, marked r))
 
 pub chains_sound : {rs : List (List ℕ)} {free : List ℕ} {inbox : ℕ → List ℕ} → valid_size (group_size rs) ≡ true → head_zero rs ≡ true
     → OnChains rs free inbox → sound_records rs ≡ true

@@ -4,6 +4,7 @@ use Prim.Native.Nat.{ℕ, zero, suc, ◌+◌, ◌≤◌, ◌<◌}
 use mathlib.Core.Path.{◌≡◌, refl, sym, ap, subst, ◌∙◌}
 use mathlib.Core.Bool.{Bool, true, false, false≢true}
 use mathlib.Core.Logic.{◌≢◌}
+use Rattle.std.specs.Prelude.{None, Option, Some, IfSome}
 use mathlib.Core.List.{List, [], ◌∷◌}
 use native.Mathlib.Omega.{arith}
 use native.Mathlib.Nat.{not-suc-le-zero, le_of_suc-le-suc}
@@ -39,6 +40,15 @@ mark_set passed i r e =
         by_order (suc i) (length passed) (λ h. h)
         (λ h. absurd (false≢true (sym e ∙ get_or-eq_default passed true (omega arith))))
 
+-- what holds of a value that is there follows from what else does
+pub if_some : {T : Type 0} {P Q : T → Type 0} (o : Option T) → ((x : T) → P x → Q x) → IfSome o P → IfSome o Q
+if_some None h p = tt
+if_some (Some x) h p = h x p
+
+-- chains were followed to their ends
+abbrev pub Gives : Option Walked → Type 0
+Gives o = (w : Walked) × (o ≡ Some w)
+
 -- l is a chain of records that belong on it, followed to its end, and these are passed now
 pub record Followed (belongs : List ℕ → Bool) (left : ℕ) (rs : List (List ℕ)) (i : ℕ) (passed : List Bool) (count : ℕ) (w : Walked) (l : List ℕ) : Type 0 where
   pub chain : IsChain rs i l
@@ -49,9 +59,9 @@ pub record Followed (belongs : List ℕ → Bool) (left : ℕ) (rs : List (List 
 
 module _ (belongs : List ℕ → Bool) (rs : List (List ℕ)) where
   -- at the chain's end
-  followed_end : (left i : ℕ) (passed : List Bool) (count : ℕ) (ok : Bool) → i ≡ 0 → Followed belongs left rs i passed count (walked ok passed count) []
+  followed_end : (left i : ℕ) (passed : List Bool) (count : ℕ) → i ≡ 0 → Followed belongs left rs i passed count (walked passed count) []
   unfolding Leads times
-  followed_end left i passed count ok e =
+  followed_end left i passed count e =
       record {
         chain = e;
         short = omega arith;
@@ -73,44 +83,51 @@ module _ (belongs : List ℕ → Bool) (rs : List (List ℕ)) where
         marks = λ r. omega (arith, f.marks r, mark_set passed i r free);
       }
 
-  walk_some : (left i : ℕ) (passed : List Bool) (count : ℕ) → (walk belongs left rs i passed count).ok ≡ true
-      → (l : List ℕ) × Followed belongs left rs i passed count (walk belongs left rs i passed count) l
+  abbrev FollowedSome : ℕ → ℕ → List Bool → ℕ → Option Walked → Type 0
+  FollowedSome left i passed count o = IfSome o (λ (w : Walked). (l : List ℕ) × Followed belongs left rs i passed count w l)
+
+  walk_some : (left i : ℕ) (passed : List Bool) (count : ℕ) → FollowedSome left i passed count (walk belongs left rs i passed count)
   unfolding walk
-  walk_some zero i passed count = λ e. ([], followed_end zero i passed count (eqb i 0) (eqb-true i 0 e))
+  walk_some zero i passed count =
+      by_cond (FollowedSome zero i passed count) (eqb i 0) _ _
+      (λ z. ([], followed_end zero i passed count (eqb-true i 0 z)))
+      (λ _. tt)
   walk_some (suc left) i passed count =
       by_cond Goal (eqb i 0) _ _
-      (λ z _. ([], followed_end (suc left) i passed count true (eqb-true i 0 z)))
+      (λ z. ([], followed_end (suc left) i passed count (eqb-true i 0 z)))
       (λ z. by_cond Goal (get_or passed i true) _ _
-      (λ _ e. absurd (false≢true e))
+      (λ _. tt)
       (λ free. by_cond Goal (belongs (record_in rs i)) _ _
-      (λ b e. let f = walk_some left (next_in rs i) (set passed i true) (suc count) e in (i ∷ f.0, followed_more left i passed count _ f.0 (eqb-false i 0 z) free b f.1))
-      (λ _ e. absurd (false≢true e))))
+      (λ b. if_some (walk belongs left rs (next_in rs i) (set passed i true) (suc count))
+      (λ w f. (i ∷ f.0, followed_more left i passed count w f.0 (eqb-false i 0 z) free b f.1))
+      (walk_some left (next_in rs i) (set passed i true) (suc count)))
+      (λ _. tt)))
     where
-      Goal : Walked → Type 0
-      Goal w = w.ok ≡ true → (l : List ℕ) × Followed belongs (suc left) rs i passed count w l
+      Goal : Option Walked → Type 0
+      Goal = FollowedSome (suc left) i passed count
 
   -- it succeeded: so there is the chain
-  pub walk_chain : (left i : ℕ) (passed : List Bool) (count : ℕ) → (walk belongs left rs i passed count).ok ≡ true
-      → Followed belongs left rs i passed count (walk belongs left rs i passed count) (chain_from left rs i)
-  walk_chain left i passed count e =
-      let f = walk_some left i passed count e in
-      subst (Followed belongs left rs i passed count (walk belongs left rs i passed count)) (sym (chain_from_lem rs f.0 left i f.1.chain f.1.short)) f.1
+  pub walk_chain : (left i : ℕ) (passed : List Bool) (count : ℕ) (w : Walked) → walk belongs left rs i passed count ≡ Some w
+      → Followed belongs left rs i passed count w (chain_from left rs i)
+  walk_chain left i passed count w e =
+      let f : (l : List ℕ) × Followed belongs left rs i passed count w l = subst (FollowedSome left i passed count) e (walk_some left i passed count) in
+      subst (Followed belongs left rs i passed count w) (sym (chain_from_lem rs f.0 left i f.1.chain f.1.short)) f.1
 
   -- there is the chain: so it succeeds
   pub chain_walk : (l : List ℕ) (left i : ℕ) (passed : List Bool) (count : ℕ) → IsChain rs i l → length l ≤ left
       → ((r : ℕ) → 0 < times r l → belongs (record_in rs r) ≡ true) → ((r : ℕ) → mark passed r + times r l ≤ 1)
-      → (walk belongs left rs i passed count).ok ≡ true
+      → Gives (walk belongs left rs i passed count)
   unfolding walk Leads times
-  chain_walk [] zero i passed count p h b m = eq-eqb i 0 p
-  chain_walk [] (suc left) i passed count p h b m = rw (eq-eqb i 0 p)
+  chain_walk [] zero i passed count p h b m = (walked passed count, rw (eq-eqb i 0 p))
+  chain_walk [] (suc left) i passed count p h b m = (walked passed count, rw (eq-eqb i 0 p))
   chain_walk (x ∷ l) zero i passed count p h b m = absurd (not-suc-le-zero h)
   chain_walk (x ∷ l) (suc left) i passed count p h b m =
       let free : get_or passed x true ≡ false = bit_false (get_or passed x true) (omega (arith, m x, bit_same x x refl)) in
-      ap (λ (k : ℕ). (walk belongs (suc left) rs k passed count).ok) (sym p.0)
-      ∙ rw (ne_eqb x 0 p.1, free, b x (stands_head x l))
-      (chain_walk l left (next_in rs x) (set passed x true) (suc count) p.2 (le_of_suc-le-suc h)
+      let rest : Gives (walk belongs left rs (next_in rs x) (set passed x true) (suc count)) =
+      chain_walk l left (next_in rs x) (set passed x true) (suc count) p.2 (le_of_suc-le-suc h)
       (λ r k. b r (stands_tail r x l k))
-      (λ r. omega (arith, m r, mark_set passed x r free)))
+      (λ r. omega (arith, m r, mark_set passed x r free)) in
+      (rest.0, ap (λ (k : ℕ). walk belongs (suc left) rs k passed count) (sym p.0) ∙ rw (ne_eqb x 0 p.1, free, b x (stands_head x l)) refl ∙ rest.1)
 
 -- ---- the inboxes of the nodes from k on, one after the other
 
@@ -136,52 +153,58 @@ module _ (n : ℕ) (rs : List (List ℕ)) where
         short = λ j a b. by_same k j (λ z. subst (λ (m : ℕ). length (inbox_list rs m) ≤ length rs) z s) (λ d. i.short j (omega arith) (omega arith));
       }
 
-  pub record FollowedAll (left k : ℕ) (w w' : Walked) : Type 0 where
-    pub before : w.ok ≡ true
+  pub record FollowedAll (left k : ℕ) (o : Option Walked) (w : Walked) : Type 0 where
+    pub first : Walked
+    pub before : o ≡ Some first
     pub inboxes : Inboxes left k
-    pub marks : (r : ℕ) → mark w'.passed r ≡ mark w.passed r + times_on r left (inbox_list rs) k
+    pub marks : (r : ℕ) → mark w.passed r ≡ mark first.passed r + times_on r left (inbox_list rs) k
 
-  walk_inbox : (k : ℕ) (passed : List Bool) → (walk (belongs_to n k) (length rs) rs (first_of rs k) passed 0).ok ≡ true
-      → Followed (belongs_to n k) (length rs) rs (first_of rs k) passed 0 (walk (belongs_to n k) (length rs) rs (first_of rs k) passed 0) (inbox_list rs k)
+  abbrev inbox_walk : ℕ → List Bool → Option Walked
+  inbox_walk k passed = walk (belongs_to n k) (length rs) rs (first_of rs k) passed 0
+
+  walk_inbox : (k : ℕ) (passed : List Bool) (w : Walked) → inbox_walk k passed ≡ Some w
+      → Followed (belongs_to n k) (length rs) rs (first_of rs k) passed 0 w (inbox_list rs k)
   unfolding inbox_list
-  walk_inbox k passed e = walk_chain (belongs_to n k) rs (length rs) (first_of rs k) passed 0 e
+  walk_inbox k passed w e = walk_chain (belongs_to n k) rs (length rs) (first_of rs k) passed 0 w e
 
-  pub inboxes_chains : (left k : ℕ) (w : Walked) → (walk_inboxes left n rs k w).ok ≡ true → FollowedAll left k w (walk_inboxes left n rs k w)
+  pub inboxes_chains : (left k : ℕ) (o : Option Walked) → IfSome (walk_inboxes left n rs k o) (FollowedAll left k o)
   unfolding walk_inboxes times_on
-  inboxes_chains zero k w = λ e. record { before = e; inboxes = inboxes_none k; marks = λ r. omega arith }
-  inboxes_chains (suc left) k w =
-      by_cond Goal w.ok _ _
-      (λ ok e. more ok (inboxes_chains left (suc k) (walk (belongs_to n k) (length rs) rs (first_of rs k) w.passed 0) e))
-      (λ no e. absurd (false≢true (sym no ∙ e)))
+  inboxes_chains zero k None = tt
+  inboxes_chains zero k (Some w) = record { first = w; before = refl; inboxes = inboxes_none k; marks = λ r. omega arith }
+  inboxes_chains (suc left) k None = tt
+  inboxes_chains (suc left) k (Some w) =
+      if_some (walk_inboxes left n rs (suc k) (inbox_walk k w.passed)) more (inboxes_chains left (suc k) (inbox_walk k w.passed))
     where
-      Goal : Walked → Type 0
-      Goal w' = w'.ok ≡ true → FollowedAll (suc left) k w w'
-
-      more : {w' : Walked} → w.ok ≡ true → FollowedAll left (suc k) (walk (belongs_to n k) (length rs) rs (first_of rs k) w.passed 0) w' → FollowedAll (suc left) k w w'
-      more ok a =
-          let f = walk_inbox k w.passed a.before in
+      more : (w' : Walked) → FollowedAll left (suc k) (inbox_walk k w.passed) w' → FollowedAll (suc left) k (Some w) w'
+      more w' a =
+          let f = walk_inbox k w.passed a.first a.before in
           record {
-            before = ok;
+            first = w;
+            before = refl;
             inboxes = inboxes_more left k f.chain f.each f.short a.inboxes;
             marks = λ r. omega (arith, a.marks r, f.marks r);
           }
 
-  pub chains_inboxes : (left k : ℕ) (w : Walked) → w.ok ≡ true → Inboxes left k → ((r : ℕ) → mark w.passed r + times_on r left (inbox_list rs) k ≤ 1)
-      → (walk_inboxes left n rs k w).ok ≡ true
+  -- and of chains that were followed to their ends
+  pub followed_all : (left k : ℕ) (o : Option Walked) (w : Walked) → walk_inboxes left n rs k o ≡ Some w → FollowedAll left k o w
+  followed_all left k o w e = subst (λ (v : Option Walked). IfSome v (FollowedAll left k o)) e (inboxes_chains left k o)
+
+  pub chains_inboxes : (left k : ℕ) (w : Walked) → Inboxes left k → ((r : ℕ) → mark w.passed r + times_on r left (inbox_list rs) k ≤ 1)
+      → Gives (walk_inboxes left n rs k (Some w))
   unfolding walk_inboxes times_on
-  chains_inboxes zero k w ok i m = ok
-  chains_inboxes (suc left) k w ok i m =
-      let good : (walk (belongs_to n k) (length rs) rs (first_of rs k) w.passed 0).ok ≡ true =
+  chains_inboxes zero k w i m = (w, refl)
+  chains_inboxes (suc left) k w i m =
+      let good : Gives (inbox_walk k w.passed) =
       chain_walk (belongs_to n k) rs (inbox_list rs k) (length rs) (first_of rs k) w.passed 0
       (i.chain k (omega arith) (omega arith)) (i.short k (omega arith) (omega arith)) (i.each k (omega arith) (omega arith)) (λ r. omega (arith, m r)) in
-      rw ok
-      (chains_inboxes left (suc k) (walk (belongs_to n k) (length rs) rs (first_of rs k) w.passed 0) good
+      subst (λ (o : Option Walked). Gives (walk_inboxes left n rs (suc k) o)) (sym good.1)
+      (chains_inboxes left (suc k) good.0
       (record {
         chain = λ j a b. i.chain j (omega arith) (omega arith);
         each = λ j a b. i.each j (omega arith) (omega arith);
         short = λ j a b. i.short j (omega arith) (omega arith);
       })
-      (λ r. omega (arith, m r, (walk_inbox k w.passed good).marks r)))
+      (λ r. omega (arith, m r, (walk_inbox k w.passed good.0 good.1).marks r)))
 
 -- ---- what is passed before and after all
 

@@ -1,4 +1,5 @@
 -- `record_read::read_record` meets its contract: the message of the fields, unless a byte after its rows is not 0.
+use native.Mathlib.Omega.{arith}
 use mathlib.Core.Path.{sym, ap, ◌∙◌}
 use Rattle.record.specs.Kind.{message_of}
 use Rattle.record.proofs.RecordLaws.{read_found}
@@ -12,8 +13,8 @@ pub returns : goal.returns
 returns c =
     let r = c.args.r.now in
     let f = c.read_fields-fields in
-    let m = c.in-Known.message in
-    let e = sym c.message_of.ensures ∙ c.in-Known.is in
+    let m = c.in_ok-message.message in
+    let e = sym c.message_of.ensures ∙ c.in_ok-message.was in
     let z = sym c.zero_after_rows.ensures ∙ c.if-not-zero_after_rows.false in
     let again = zero_read c.args.n r m (ap message_of (sym f.ensures) ∙ e) (zero_long _ _ z) in
-    sym (read_found c.args.n r f.result m c.requires f.ensures e (sym again ∙ z))
+    sym (read_found c.args.n r f.result m (omega arith) f.ensures e (sym again ∙ z))

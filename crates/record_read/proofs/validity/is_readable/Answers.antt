@@ -6,10 +6,10 @@ use Rattle.record_read.specs.Known.{is_known}
 use Rattle.record_read.proofs.ReadableLaws.{readable_stray, readable_known}
 use Rattle.record_read.proofs.validity.is_readable.Goals as goal
 
-pub returns-then-not-zero_after_rows : goal.returns-then-not-zero_after_rows
-returns-then-not-zero_after_rows c = sym (readable_stray _ _ (sym c.zero_after_rows.ensures ∙ c.if-not-zero_after_rows.true))
+pub returns-else-zero_after_rows : goal.returns-else-zero_after_rows
+returns-else-zero_after_rows c = c.if-zero_after_rows.false ∙ sym (readable_stray _ _ (sym c.zero_after_rows.ensures ∙ c.if-zero_after_rows.false))
 
-pub returns : goal.returns
-returns c =
-    let z = sym c.zero_after_rows.ensures ∙ c.if-not-zero_after_rows.false in
+pub returns-then-zero_after_rows : goal.returns-then-zero_after_rows
+returns-then-zero_after_rows c =
+    let z = sym c.zero_after_rows.ensures ∙ c.if-zero_after_rows.true in
     c.is_known.ensures ∙ ap (λ (f : Fields). is_known (message_of f)) c.read_fields.ensures ∙ sym (readable_known _ _ z)

@@ -3,4 +3,4 @@ use Rattle.record_read.proofs.ReadableLaws.{rows_of_kind_most}
 use Rattle.record_read.proofs.validity.zero_after_rows.Goals as goal
 
 pub zero_from_row-requires : goal.zero_from_row-requires
-zero_from_row-requires c = (c.if-r-ne-SIZE.false, rw c.rows_of_kind.ensures (rows_of_kind_most _ _))
+zero_from_row-requires c = rw c.rows_of_kind.ensures (rows_of_kind_most _ _)

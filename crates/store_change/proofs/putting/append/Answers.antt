@@ -10,8 +10,8 @@ use Rattle.store_change.proofs.putting.append.Goals as goal
 
 pub returns-then-first-eq0 : goal.returns-then-first-eq0
 unfolding appended
-returns-then-first-eq0 c = let a = c.args in let s = a.s.now in let rs = records_of s in rw (eq-eqb (first_of rs a.k) 0 (sym c.first_of-first.ensures ∙ c.if-first-eq0.true)) (ap records_of c.set_first_of.ensures ∙ records_first s c.requires a.k a.i)
+returns-then-first-eq0 c = let a = c.args in let s = a.s.now in let rs = records_of s in rw (eq-eqb (first_of rs a.k) 0 (sym c.first_of-first.ensures ∙ c.if-first-eq0.true)) (ap records_of c.set_first_of.ensures ∙ records_first s c.told-s a.k a.i)
 
 pub returns : goal.returns
 unfolding appended
-returns c = let a = c.args in let s = a.s.now in let rs = records_of s in let f = c.first_of-first in rw (ne_eqb (first_of rs a.k) 0 (λ e. c.if-first-eq0.false (f.ensures ∙ e)), records_count s) (ap records_of c.set_next.ensures ∙ records_next s c.requires _ a.i ∙ ap (λ (m : ℕ). with_next_in rs m a.i) (c.last_from-last.ensures ∙ ap (last_from record_count rs) f.ensures))
+returns c = let a = c.args in let s = a.s.now in let rs = records_of s in let f = c.first_of-first in rw (ne_eqb (first_of rs a.k) 0 (λ e. c.if-first-eq0.false (f.ensures ∙ e)), records_count s) (ap records_of c.set_next.ensures ∙ records_next s c.told-s _ a.i ∙ ap (λ (m : ℕ). with_next_in rs m a.i) (c.last_from-last.ensures ∙ ap (last_from record_count rs) f.ensures))

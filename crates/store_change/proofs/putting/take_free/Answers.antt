@@ -17,7 +17,7 @@ returns c =
     let rs = records_of s in
     let f = c.first_free-i in
     let n = c.group_size-n in
-    let behind = ap records_of c.set_first_free.ensures ∙ records_free s c.requires _
-    ∙ ap (with_first_free rs) (c.next-after.ensures ∙ next_in_lem s c.requires _ ∙ ap (next_in rs) f.ensures) in
+    let behind = ap records_of c.set_first_free.ensures ∙ records_free s c.told-s _
+    ∙ ap (with_first_free rs) (c.next-after.ensures ∙ next_in_lem s c.told-s _ ∙ ap (next_in rs) f.ensures) in
     ap records_of c.write.ensures ∙ records_with _ (search rules) _ _ (λ h. length_record n.result 0 a.envelope a.rows)
     ∙ (λ j. set (behind j) (f.ensures j) (record_bytes (n.ensures j) 0 a.envelope a.rows))

@@ -15,7 +15,7 @@ returns c =
     let s = a.s.now in
     let rs = records_of s in
     let f = c.first_free-first in
-    let cleared = ap records_of c.clear.ensures ∙ records_clear s c.requires a.r in
+    let cleared = ap records_of c.clear.ensures ∙ records_clear s c.told-s a.r in
     let linked = ap records_of c.set_next.ensures ∙ records_next _ (search rules) a.r f.result
     ∙ ap (λ (l : List (List ℕ)). with_next_in l a.r f.result) cleared in
     ap records_of c.set_first_free.ensures ∙ records_free _ (search rules) a.r

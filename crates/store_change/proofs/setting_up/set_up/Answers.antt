@@ -7,9 +7,9 @@ use Rattle.store_change.proofs.Linked.{head_set}
 use Rattle.store.specs.Change.{empty_records, set_up}
 use Rattle.store_change.proofs.setting_up.set_up.Goals as goal
 
-pub returns-then-s-ne-LENGTH : goal.returns-then-s-ne-LENGTH
+pub returns-in_default : goal.returns-in_default
 unfolding set_up
-returns-then-s-ne-LENGTH c = let a = c.args in unchanged (λ (rs : List (List ℕ)). empty_records record_count (a.n % 256)) a.s.now c.if-s-ne-LENGTH.true
+returns-in_default c = let a = c.args in unchanged (λ (rs : List (List ℕ)). empty_records record_count (a.n % 256)) a.s.now c.in_default.ensures.cases
 
 pub returns : goal.returns
 unfolding set_up
@@ -22,5 +22,5 @@ returns c =
     (ap records_of c.set_first_free.ensures ∙ records_free _ (search rules) 1
     ∙ ap (λ (l : List (List ℕ)). with_first_free l 1) c.link_free.ensures)
     ∙ head_set 239 n)
-    c.if-s-ne-LENGTH.false
+    c.in-Some.ensures.cases.long
     (search rules)

@@ -1,0 +1,13 @@
+-- `store_check::chain::follow` meets its contract. The invariant: what is left to follow gives the answer; every way out of
+-- the loop is a law of `Walking`.
+use Rattle.std.proofs.Common.{◌≡◌, ◌-◌, length}
+use Rattle.store.specs.Records.{record_count, records_of}
+use Rattle.store.specs.Chain.{walk}
+use Rattle.store.specs.Sound.{belongs_on}
+use Rattle.store_check.proofs.chain.follow.Given as goal
+
+abbrev pub invariant-loop-count : goal.invariant-loop-count
+invariant-loop-count l =
+    (length l.passed ≡ record_count)
+    × (walk (belongs_on l.chain l.n) (record_count - l.count) (records_of l.s) l.place.at l.passed l.count
+    ≡ walk (belongs_on l.chain l.n) record_count (records_of l.s) l.first l.initial.passed 0)
