@@ -1,49 +1,47 @@
-// Delivery of Confirmed, decided by the view of its sender: a node that is Confirming counts it. The sender's incarnation is
-// the envelope's.
+// Delivery of Confirmed, decided by the view of its sender: a node that is Confirming counts it, and at f of them its write has
+// ended. The sender's incarnation is the envelope's.
 ghost use Rattle.std.specs.Prelude.{◌≡◌};
-ghost use Rattle.confirming.specs.Decisions.{present_under, confirmed_decision};
+ghost use Rattle.protocol.specs.Storing.{end_answer};
+ghost use Rattle.confirming.specs.Decisions.{confirmed_decision};
 
-use crate::settle::confirmed_counted;
 use item::{Attempt, Incarnation, Item};
-use phase::is_confirming;
-use protocol::{Peer, Refusal};
-use sender_view::{Decision, SenderView, own_write, refused};
-
-// Whether the sender is one of those asked, under this incarnation.
-fn asked_under(peer: Peer, incarnation: Incarnation) -> bool
-    ensures { result ≡ present_under peer incarnation }
-{
-    if !peer.present {
-        return false;
-    }
-    peer.incarnation.same(incarnation)
-}
+use phase::{is_confirming, is_returning};
+use protocol::{Answer, Phase, Refusal, Sends};
+use sender_view::{Decision, NodeChange, SenderView, count_sender, own_write};
 
 // Confirmed: refused with 9, with 10 (also where the sender was not asked under this incarnation) or 11; otherwise
-// the sender is counted.
-#[tactic(auto, unfolding(crate::specs::Decisions::confirmed_decision))]
+// the sender is counted: at f the write has ended, and the node is Up and Idle.
+#[tactic(auto, unfolding(crate::specs::Decisions::confirmed_decision, item::specs::Counter::same_incarnation))]
 pub fn on_confirmed(
     view: SenderView,
     incarnation: Incarnation,
     other: Incarnation,
     attempt: Attempt,
     item: Item,
-) -> Decision
+) -> Result<Decision, Refusal>
     ensures { result ≡ confirmed_decision view incarnation other attempt item }
 {
-    let phase = view.phase;
-    if !is_confirming(phase) {
-        return refused(Refusal::NotTaken);
+    if !is_confirming(view.phase) {
+        return Err(Refusal::NotTaken);
     }
-    if !own_write(view, other, attempt, item) {
-        return refused(Refusal::Stale);
+    if !own_write(view, other, attempt, item) || view.asked != Some(incarnation) {
+        return Err(Refusal::Stale);
     }
-    let peer = view.asked;
-    if !asked_under(peer, incarnation) {
-        return refused(Refusal::Stale);
+    let ended = Decision {
+        answer: end_answer(view.phase, view.own),
+        change: NodeChange::Ended,
+        sends: Sends::Nothing,
+    };
+    count_sender(view, incarnation, ended)
+}
+
+// Accepted where the node was Returning, otherwise settled.
+#[tactic(auto, unfolding(protocol::specs::Storing::end_answer))]
+fn end_answer(phase: Phase, item: Item) -> Answer
+    ensures { result ≡ end_answer phase item }
+{
+    if is_returning(phase) {
+        return Answer::Accepted(item);
     }
-    if view.counted {
-        return refused(Refusal::Counted);
-    }
-    confirmed_counted(view, incarnation)
+    Answer::Settled(item)
 }

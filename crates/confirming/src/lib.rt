@@ -3,7 +3,6 @@
 
 mod count;
 mod reply;
-mod settle;
 
 pub use count::on_confirmed;
 pub use reply::on_confirm;

@@ -8,51 +8,38 @@ use item::{Attempt, Incarnation, Item, Row};
 use message::Message;
 use phase::is_up;
 use protocol::{Refusal, Sends};
-use sender_view::{Decision, NodeChange, SenderView, ok, refused};
+use sender_view::{Decision, NodeChange, SenderView, ok};
 
 // Whether the row has this item, stored under these counters.
-#[tactic(auto, unfolding(protocol::specs::Storing::stored_under))]
+#[tactic(auto, unfolding(protocol::specs::Storing::stored_under, item::specs::Counter::same_incarnation, item::specs::Counter::same_attempt, item::specs::Item::same_item, item::specs::Item::tags_agree))]
 fn stored_under(row: Row, incarnation: Incarnation, attempt: Attempt, item: Item) -> bool
     ensures { result ≡ stored_under row incarnation attempt item }
 {
-    if !row.item.same(item) {
-        return false;
-    }
-    if !row.incarnation.same(incarnation) {
-        return false;
-    }
-    row.attempt.same(attempt)
+    row.item == item && row.incarnation == incarnation && row.attempt == attempt
 }
 
 // Confirm: refused with 9, or with 10 where the node has started since it stored or the sender's row has something
 // else by now; otherwise Confirmed goes back.
-#[tactic(auto, unfolding(crate::specs::Decisions::confirm_decision))]
+#[tactic(auto, unfolding(crate::specs::Decisions::confirm_decision, item::specs::Counter::same_incarnation))]
 pub fn on_confirm(
     view: SenderView,
     incarnation: Incarnation,
     other: Incarnation,
     attempt: Attempt,
     item: Item,
-) -> Decision
+) -> Result<Decision, Refusal>
     ensures { result ≡ confirm_decision view incarnation other attempt item }
 {
-    let phase = view.phase;
-    if !is_up(phase) {
-        return refused(Refusal::NotTaken);
+    if !is_up(view.phase) {
+        return Err(Refusal::NotTaken);
     }
-    if !other.same(view.incarnation) {
-        return refused(Refusal::Stale);
+    if other != view.incarnation || !stored_under(view.row, incarnation, attempt, item) {
+        return Err(Refusal::Stale);
     }
-    let row = view.row;
-    if !stored_under(row, incarnation, attempt, item) {
-        return refused(Refusal::Stale);
-    }
-    ok(
-        NodeChange::Nothing,
-        Sends::Back(Message::Confirmed {
-            other: incarnation,
-            attempt: attempt,
-            item: item,
-        }),
-    )
+    let confirmed = Message::Confirmed {
+        other: incarnation,
+        attempt,
+        item,
+    };
+    Ok(ok(NodeChange::Nothing, Sends::Back(confirmed)))
 }

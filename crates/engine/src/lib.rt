@@ -3,6 +3,7 @@
 #![tactic(auto)]
 
 ghost use Rattle.std.specs.Prelude.{◌≡◌};
+ghost use Rattle.protocol.specs.Answer.{step_after};
 ghost use Rattle.protocol.specs.Deliver.{deliver_step};
 ghost use Rattle.engine.specs.Decided.{decided};
 
@@ -13,12 +14,12 @@ use item::{Incarnation, Item};
 use message::{Envelope, Message};
 pub use node::fresh_node;
 pub use node_calls::{crash, retry, start, write};
-use protocol::{Node, Step};
+use protocol::{Node, Refusal, Step};
 use sender_view::{Decision, SenderView, step_of, view_of};
 use storing::{on_store, on_stored};
 
-// What is decided of a message: a decision by the view of its sender, or that it is a Table with this other incarnation,
-// which the whole node decides.
+// What is decided of a message that is not refused: a decision by the view of its sender, or that it is a Table with this other
+// incarnation, which the whole node decides.
 #[derive(Clone, Copy)]
 pub enum Decided {
     Change(Decision),
@@ -27,44 +28,50 @@ pub enum Decided {
 
 // What is decided of a message of the sender with this view.
 #[tactic(auto, unfolding(crate::specs::Decided::decided))]
-pub fn decide(view: SenderView, incarnation: Incarnation, message: Message) -> Decided
+pub fn decide(
+    view: SenderView,
+    incarnation: Incarnation,
+    message: Message,
+) -> Result<Decided, Refusal>
     ensures { result ≡ decided view incarnation message }
 {
-    match message {
-        Message::Store { attempt, item } => {
-            Decided::Change(on_store(view, incarnation, attempt, item))
-        }
+    let decision = match message {
+        Message::Store { attempt, item } => on_store(view, incarnation, attempt, item)?,
         Message::Stored {
             other,
             attempt,
             item,
-        } => Decided::Change(on_stored(view, incarnation, other, attempt, item)),
+        } => on_stored(view, incarnation, other, attempt, item)?,
         Message::Confirm {
             other,
             attempt,
             item,
-        } => Decided::Change(on_confirm(view, incarnation, other, attempt, item)),
+        } => on_confirm(view, incarnation, other, attempt, item)?,
         Message::Confirmed {
             other,
             attempt,
             item,
-        } => Decided::Change(on_confirmed(view, incarnation, other, attempt, item)),
-        Message::Fetch => Decided::Change(on_fetch(view, incarnation)),
-        Message::Table { other } => Decided::Table(other),
-    }
+        } => on_confirmed(view, incarnation, other, attempt, item)?,
+        Message::Fetch => on_fetch(view, incarnation)?,
+        Message::Table { other } => return Ok(Decided::Table(other)),
+    };
+    Ok(Decided::Change(decision))
 }
 
 // What the node makes of a message. `items` are the rows of a Table; the other kinds do not look at them.
-#[tactic(auto, unfolding(crate::specs::Decided::decided_step, protocol::specs::Deliver::deliver_step))]
-pub fn deliver(node: Node, envelope: Envelope, items: [Item; Node::MAX_ROWS]) -> Step
-    ensures { result ≡ deliver_step node envelope items }
+#[tactic(auto, unfolding(crate::specs::Decided::decided_step, protocol::specs::Answer::step_after, protocol::specs::Deliver::deliver_step))]
+pub fn deliver(
+    node: Node,
+    envelope: Envelope,
+    items: [Item; Node::MAX_ROWS],
+) -> Result<Step, Refusal>
+    ensures { step_after node result ≡ deliver_step node envelope items }
 {
     let sender = envelope.sender;
     let incarnation = envelope.incarnation;
-    let message = envelope.message;
-    let view = view_of(node, sender);
-    match decide(view, incarnation, message) {
-        Decided::Change(decision) => step_of(node, sender, decision),
+    let view = view_of(&node, sender);
+    match decide(view, incarnation, envelope.message)? {
+        Decided::Change(decision) => Ok(step_of(node, sender, decision)),
         Decided::Table(other) => on_table(node, sender, incarnation, other, items),
     }
 }

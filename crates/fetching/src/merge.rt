@@ -7,7 +7,7 @@ use protocol::Node;
 
 // A row after one more table with this item for it. The first table's item is taken whatever the row is; later a
 // greater index is taken, unmarked, a lower one changes nothing, and an equal one with another tag marks the row.
-#[tactic(auto, unfolding(protocol::specs::Merge::merge_row))]
+#[tactic(auto, unfolding(protocol::specs::Merge::merge_row, item::specs::Item::same_item, item::specs::Item::tags_agree))]
 pub fn merge_row(first: bool, row: Row, item: Item) -> Row
     ensures { result ≡ merge_row first row item }
 {
@@ -30,7 +30,7 @@ pub fn merge_row(first: bool, row: Row, item: Item) -> Row
     if item.ranks_below(row.item) {
         return row;
     }
-    if item.same(row.item) {
+    if item == row.item {
         return row;
     }
     let mut next = row;

@@ -14,8 +14,7 @@ use protocol::{Answer, Node, Phase, Sends, Stage, Step};
 pub fn table_counted(node: Node) -> Step
     ensures { result ≡ table_counted node }
 {
-    let counted = node.counted;
-    if count_peers(counted) <= half(node.n) {
+    if count_peers(&node.counted) <= half(node.n) {
         return ok(node, Sends::Nothing);
     }
     node_recover(node)
@@ -59,6 +58,6 @@ fn stopped(node: Node) -> Step
 fn written_back(node: Node) -> Node
     ensures { result ≡ written_back node }
 {
-    let item = own_item(node);
+    let item = own_item(&node);
     storing_begun(node, Phase::Returning(Stage::Storing), Attempt(1), item)
 }

@@ -6,19 +6,16 @@ use item::Incarnation;
 use message::Message;
 use phase::is_up;
 use protocol::{Refusal, Sends};
-use sender_view::{Decision, NodeChange, SenderView, ok, refused};
+use sender_view::{Decision, NodeChange, SenderView, ok};
 
 // Fetch: refused with 9 unless the node is Up; otherwise its rows go back in a Table.
 #[tactic(auto, unfolding(crate::specs::Decisions::fetch_decision))]
-pub fn on_fetch(view: SenderView, incarnation: Incarnation) -> Decision
+pub fn on_fetch(view: SenderView, incarnation: Incarnation) -> Result<Decision, Refusal>
     ensures { result ≡ fetch_decision view incarnation }
 {
-    let phase = view.phase;
-    if !is_up(phase) {
-        return refused(Refusal::NotTaken);
+    if !is_up(view.phase) {
+        return Err(Refusal::NotTaken);
     }
-    ok(
-        NodeChange::Nothing,
-        Sends::Back(Message::Table { other: incarnation }),
-    )
+    let table = Message::Table { other: incarnation };
+    Ok(ok(NodeChange::Nothing, Sends::Back(table)))
 }

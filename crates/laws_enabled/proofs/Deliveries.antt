@@ -28,7 +28,7 @@ use Rattle.protocol.specs.declared.Refusal.{Refusal}
 use Rattle.protocol.specs.declared.Refusal.TheVariants.{NotTaken, Stale, Counted, LowerRank, OtherTag}
 use Rattle.protocol.specs.declared.Stage.TheVariants.{Confirming}
 use Rattle.protocol.specs.declared.Step.{Step}
-use Rattle.protocol.specs.declared.Verdict.{Verdict}
+use Rattle.std.specs.Prelude as core
 use Rattle.protocol.specs.Shaped.{Shaped}
 use Rattle.laws_enabled.specs.Acting.{acted, is_room_for, row_takes, takes, sending}
 use Rattle.laws_enabled.proofs.Steps.{refused_acts, quiet_acts, store_acts, back_acts, confirm_acts, asked_half}
@@ -66,7 +66,7 @@ module _ (table : List Node) (store : List ℕ) (rs : List (List ℕ)) (n k : �
       test : Bool
       test = (is_up node.phase && row_takes (row_of node sender) i a item) && is_room_for 1 rs
 
-      OfVerdict : Verdict → Type 0
+      OfVerdict : core.Result (Unit {0}) Refusal → Type 0
       OfVerdict v = ActsAs test (reply_store v node sender i a item)
 
   -- the f-th Stored

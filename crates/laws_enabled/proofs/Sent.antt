@@ -11,11 +11,16 @@ use Rattle.endian.proofs.PartLaws.{by_order}
 use Rattle.item.specs.Maxima.{max_nodes}
 use Rattle.item.specs.declared.counters.Attempt.{Attempt}
 use Rattle.item.specs.declared.Item.{Item}
+use Rattle.message.proofs.Counted as counted
+use Rattle.message.specs.declared.Envelope.{Envelope}
 use Rattle.message.specs.declared.Message.{Message}
+use Rattle.message.specs.declared.Message.TheVariants as message
+use Rattle.std.specs.Prelude.{Option, Some, None, is_some, option_map, List, ◌∷◌}
+use Rattle.item.specs.declared.counters.Incarnation.{Incarnation}
 use Rattle.returns.specs.Majority.{bit, count}
 use Rattle.store.specs.Change.{count_outgoing}
 use Rattle.protocol.specs.Node.{peer_of, count_peers}
-use Rattle.protocol.specs.Outgoing.{goes_to, outgoing_to, outgoing_from, outgoing}
+use Rattle.protocol.specs.Outgoing.{message_to, envelope_to, outgoing_to, outgoing_from, outgoing}
 use Rattle.protocol.specs.Sound.{peers_sound}
 use Rattle.protocol.specs.declared.Node.{Node}
 use Rattle.protocol.specs.declared.Sends.{Sends}
@@ -24,9 +29,10 @@ use Rattle.protocol.proofs.Counts.{present, count_peers_lem, absent_beyond}
 
 -- ---- counting
 
-bit_cond : (b : Bool) (c : ℕ) → cond b (suc c) c ≡ bit b + c
-bit_cond true c = omega arith
-bit_cond false c = omega arith
+bit_some : (o : Option Envelope) (os : List (Option Envelope)) → count_outgoing (o ∷ os) ≡ bit (is_some o) + count_outgoing os
+unfolding count_outgoing
+bit_some None os = omega (arith, counted.count_none os)
+bit_some (Some e) os = omega (arith, counted.count_some e os)
 
 count_same : (a b : ℕ → Bool) → ((j : ℕ) → a j ≡ b j) → (m : ℕ) → count a m ≡ count b m
 unfolding count
@@ -87,56 +93,78 @@ count_only n back h (suc m) =
 -- ---- what is outgoing
 
 module _ (node : Node) (s : Sends) (back : ℕ) where
-  from_count : (k c : ℕ) → count_outgoing (outgoing_from node s back k c) + count (λ j. ltb j node.n && goes_to s node back j) k
-      ≡ count (λ j. ltb j node.n && goes_to s node back j) (k + c)
-  unfolding outgoing_from count_outgoing outgoing_to count
+  from_count : (k c : ℕ) → count_outgoing (outgoing_from node s back k c) + count (λ j. is_some (outgoing_to node s back j)) k
+      ≡ count (λ j. is_some (outgoing_to node s back j)) (k + c)
+  unfolding outgoing_from count_outgoing count
   from_count k zero = let z : k + 0 ≡ k = omega arith in rw z (omega arith)
   from_count k (suc c) =
       let z : k + suc c ≡ suc k + c = omega arith in
-      rw z (omega (
-        arith,
-        bit_cond (ltb k node.n && goes_to s node back k) (count_outgoing (outgoing_from node s back (suc k) c)),
-        from_count (suc k) c,
-      ))
+      rw z (omega (arith, bit_some (outgoing_to node s back k) (outgoing_from node s back (suc k) c), from_count (suc k) c))
 
-  pub outgoing_count : count_outgoing (outgoing node s back) ≡ count (λ j. ltb j node.n && goes_to s node back j) max_nodes
+  -- a message goes to each node of the group for which there is one
+  to_some : (j : ℕ) → is_some (outgoing_to node s back j) ≡ (ltb j node.n && is_some (message_to s node back j))
+  unfolding outgoing_to
+  to_some j = go (ltb j node.n) (message_to s node back j)
+    where
+      go : (a : Bool) (o : Option Message) → is_some (cond a (option_map (envelope_to node j) o) None) ≡ (a && is_some o)
+      go true None = refl
+      go true (Some m) = refl
+      go false o = refl
+
+  pub outgoing_count : (goes : ℕ → Bool) → ((j : ℕ) → is_some (message_to s node back j) ≡ goes j)
+      → count_outgoing (outgoing node s back) ≡ count (λ j. ltb j node.n && goes j) max_nodes
   unfolding outgoing count
-  outgoing_count = omega (arith, from_count 0 max_nodes)
+  outgoing_count goes h =
+      let e : count (λ j. is_some (outgoing_to node s back j)) max_nodes ≡ count (λ j. ltb j node.n && goes j) max_nodes =
+      count_same _ _ (λ j. to_some j ∙ ap (λ (b : Bool). ltb j node.n && b) (h j)) max_nodes in
+      omega (arith, from_count 0 max_nodes, e)
 
 module _ (node : Node) (back : ℕ) where
   pub nothing_sent_lem : count_outgoing (outgoing node sends.Nothing back) ≡ 0
-  unfolding goes_to
-  nothing_sent_lem = outgoing_count node sends.Nothing back ∙ count_none _ (λ j. and_false (ltb j node.n)) max_nodes
+  unfolding message_to
+  nothing_sent_lem = outgoing_count node sends.Nothing back (λ j. false) (λ j. refl) ∙ count_none _ (λ j. and_false (ltb j node.n)) max_nodes
 
   pub others_sent : (m : Message) → node.number < node.n → node.n ≤ max_nodes → count_outgoing (outgoing node (sends.Others m) back) ≡ node.n - 1
-  unfolding goes_to
+  unfolding message_to
   others_sent m low most =
       omega (
         arith,
-        outgoing_count node (sends.Others m) back,
+        outgoing_count node (sends.Others m) back (λ j. not (eqb j node.number)) (λ j. goes (eqb j node.number)),
         count_others node.n node.number low max_nodes,
         ap bit (lt-ltb node.number max_nodes (omega arith)),
       )
+    where
+      goes : (b : Bool) → is_some (cond b None (Some m)) ≡ not b
+      goes true = refl
+      goes false = refl
 
   pub one_sent : (m : Message) → back < node.n → node.n ≤ max_nodes → count_outgoing (outgoing node (sends.Back m) back) ≡ 1
-  unfolding goes_to
+  unfolding message_to
   one_sent m low most =
       omega (
         arith,
-        outgoing_count node (sends.Back m) back,
+        outgoing_count node (sends.Back m) back (λ j. eqb j back) (λ j. goes (eqb j back)),
         count_only node.n back low max_nodes,
         ap bit (lt-ltb back max_nodes (omega arith)),
       )
+    where
+      goes : (b : Bool) → is_some (cond b (Some m) None) ≡ b
+      goes true = refl
+      goes false = refl
 
   pub asked_sent : (a : Attempt) (i : Item) (own : ℕ) → peers_sound own node.n node.asked ≡ true → length node.asked ≡ max_nodes
       → count_outgoing (outgoing node (sends.Asked a i) back) ≡ count_peers node.asked
-  unfolding goes_to
+  unfolding message_to
   asked_sent a i own sound long =
-      outgoing_count node (sends.Asked a i) back
+      outgoing_count node (sends.Asked a i) back (present node.asked) (λ j. goes (peer_of node.asked j))
       ∙ count_same _ (present node.asked) below max_nodes
       ∙ sym (count_peers_lem node.asked ∙ ap (count (present node.asked)) long)
     where
-      below : (j : ℕ) → (ltb j node.n && (peer_of node.asked j).present) ≡ (peer_of node.asked j).present
+      goes : (p : Option Incarnation) → is_some (option_map (λ other. message.Confirm other a i) p) ≡ is_some p
+      goes None = refl
+      goes (Some o) = refl
+
+      below : (j : ℕ) → (ltb j node.n && present node.asked j) ≡ present node.asked j
       below j =
           by_order (suc j) node.n
           (λ h. rw (lt-ltb j node.n h))

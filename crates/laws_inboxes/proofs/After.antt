@@ -14,7 +14,6 @@ use Rattle.store_laws.proofs.Sound.{Sound, store_sound}
 use Rattle.item.specs.Tests.{by_cond}
 use Rattle.item.specs.declared.Item.{Item}
 use Rattle.record.specs.Layout.{rows_of, held_rows}
-use Rattle.message.specs.declared.Outgoing.{Outgoing}
 use Rattle.record.specs.Record.{record_bytes}
 use Rattle.store.specs.Change.{count_outgoing, drop_in, empty_records}
 use Rattle.store.specs.Head.{group_size}
@@ -51,9 +50,9 @@ module _ (n : ℕ) (table : List Node) (store : List ℕ) (G : SoundGroup n tabl
 
   module _ (k back : ℕ) (step : Step) (D : Decided n table k back step) where
     reads : AllRead (group_size (records_of store)) (outgoing step.node step.sends back) (row_items step.node)
-    reads o m p =
-        subst (λ (i : ℕ). rows_of (record_bytes i 0 o.envelope (row_items step.node)) ≡ held_rows o.envelope.message i (row_items step.node))
-        (sym G.size) (all_read n table store G k back step D o m p)
+    reads e m =
+        subst (λ (i : ℕ). rows_of (record_bytes i 0 e (row_items step.node)) ≡ held_rows e.message i (row_items step.node))
+        (sym G.size) (all_read n table store G k back step D e m)
 
     carried : acted (carried_out table store (records_of store) k back step) ≡ true
         → EachPut (records_of store) (records_of (carried_out table store (records_of store) k back step).store)
@@ -94,7 +93,7 @@ module _ (n : ℕ) (table : List Node) (store : List ℕ) (G : SoundGroup n tabl
 
   -- ---- in a group of n
 
-  inboxes_of : (rs' : List (List ℕ)) (os : List Outgoing) (rows : List Item) → EachPut (records_of store) rs' os rows
+  inboxes_of : (rs' : List (List ℕ)) (os : List (Option Envelope)) (rows : List Item) → EachPut (records_of store) rs' os rows
       → (k : ℕ) → k < n → inbox rs' k ≡ inbox (records_of store) k ++ entries_to n k rows os (free_list (records_of store))
   inboxes_of rs' os rows E k low =
       E.inboxes k (omega (arith, G.size))

@@ -21,7 +21,8 @@ use Rattle.store_laws.proofs.Times.{by_same, stands_head, stands_tail, times_hea
 use Rattle.item.specs.declared.Item.{Item}
 use Rattle.record.specs.Layout.{rows_of, held_rows}
 use Rattle.message.specs.declared.Envelope.{Envelope}
-use Rattle.message.specs.declared.Outgoing.{Outgoing}
+use Rattle.message.proofs.Counted.{count_none, count_some}
+use Rattle.std.specs.Prelude.{Option, Some, None}
 use Rattle.record.specs.Record.{record_bytes}
 use Rattle.store.specs.Change.{put_in, put_each, count_outgoing, drop_in}
 use Rattle.store.specs.Head.{first_free, group_size}
@@ -135,36 +136,34 @@ module _ (rs : List (List ℕ)) (g : Sound rs) (e : Envelope) (rows : List Item)
 -- ---- several
 
 -- what several messages make of the inboxes and of the free chain
-pub record EachPut (rs rs' : List (List ℕ)) (os : List Outgoing) (rows : List Item) : Type 0 where
+pub record EachPut (rs rs' : List (List ℕ)) (os : List (Option Envelope)) (rows : List Item) : Type 0 where
   pub inboxes : (k : ℕ) → k < group_size rs → inbox rs' k ≡ inbox rs k ++ entries_to (group_size rs) k rows os (free_list rs)
   pub free : free_list rs' ≡ drop (count_outgoing os) (free_list rs)
 
--- every message that is present reads back with its rows
-abbrev pub AllRead : ℕ → List Outgoing → List Item → Type 0
-AllRead n os rows =
-    (o : Outgoing) → Memᴰ o os → o.present ≡ true → rows_of (record_bytes n 0 o.envelope rows) ≡ held_rows o.envelope.message n rows
+-- every message reads back with its rows
+abbrev pub AllRead : ℕ → List (Option Envelope) → List Item → Type 0
+AllRead n os rows = (e : Envelope) → Memᴰ (Some e) os → rows_of (record_bytes n 0 e rows) ≡ held_rows e.message n rows
 
-one_put : (rs : List (List ℕ)) (o : Outgoing) (os : List Outgoing) (rows : List Item) → Sound rs → ForGroup (group_size rs) o.envelope rows
-    → first_free rs ≢ 0 → rows_of (record_bytes (group_size rs) 0 o.envelope rows) ≡ held_rows o.envelope.message (group_size rs) rows
-    → (rs'' : List (List ℕ)) → EachPut (put_in rs o.envelope rows) rs'' os rows → o.present ≡ true → EachPut rs rs'' (o ∷ os) rows
+one_put : (rs : List (List ℕ)) (e : Envelope) (os : List (Option Envelope)) (rows : List Item) → Sound rs → ForGroup (group_size rs) e rows
+    → first_free rs ≢ 0 → rows_of (record_bytes (group_size rs) 0 e rows) ≡ held_rows e.message (group_size rs) rows
+    → (rs'' : List (List ℕ)) → EachPut (put_in rs e rows) rs'' os rows → EachPut rs rs'' (Some e ∷ os) rows
 unfolding entries_to count_outgoing
-one_put rs o os rows g fits some read rs'' E p =
+one_put rs e os rows g fits some read rs'' E =
     record {
       inboxes = λ k low.
-          rw p
-          (E.inboxes k (omega (arith, d.size))
-          ∙ (λ i. put_inbox rs g o.envelope rows fits some read k low i ++ entries_to (d.size i) k rows os (rest i))
-          ∙ between (eqb o.envelope.addressee k) (entry_of (group_size rs) rows o.envelope (first_free rs)) (inbox rs k) (entries_to (group_size rs) k rows os (drop 1 (free_list rs)))
-          ∙ ap (λ (f : ℕ). inbox rs k ++ cond (eqb o.envelope.addressee k)
-          (entry_of (group_size rs) rows o.envelope f ∷ entries_to (group_size rs) k rows os (drop 1 (free_list rs)))
-          (entries_to (group_size rs) k rows os (drop 1 (free_list rs)))) first);
-      free = rw p (E.free ∙ ap (drop (count_outgoing os)) rest ∙ dropped);
+          E.inboxes k (omega (arith, d.size))
+          ∙ (λ i. put_inbox rs g e rows fits some read k low i ++ entries_to (d.size i) k rows os (rest i))
+          ∙ between (eqb e.addressee k) (entry_of (group_size rs) rows e (first_free rs)) (inbox rs k) (entries_to (group_size rs) k rows os (drop 1 (free_list rs)))
+          ∙ ap (λ (f : ℕ). inbox rs k ++ cond (eqb e.addressee k)
+          (entry_of (group_size rs) rows e f ∷ entries_to (group_size rs) k rows os (drop 1 (free_list rs)))
+          (entries_to (group_size rs) k rows os (drop 1 (free_list rs)))) first;
+      free = E.free ∙ ap (drop (count_outgoing os)) rest ∙ dropped ∙ ap (λ (c : ℕ). drop c (free_list rs)) (sym (count_some e os));
     }
   where
-    d : PutDone rs o.envelope rows
-    d = put_done rs g o.envelope rows fits some
+    d : PutDone rs e rows
+    d = put_done rs g e rows fits some
 
-    rest : free_list (put_in rs o.envelope rows) ≡ drop 1 (free_list rs)
+    rest : free_list (put_in rs e rows) ≡ drop 1 (free_list rs)
     rest = sym (ap (drop 1) d.free)
 
     first : first_free rs ≡ get_or (free_list rs) 0 0
@@ -173,33 +172,28 @@ one_put rs o os rows g fits some read rs'' E p =
     dropped : drop (count_outgoing os) (drop 1 (free_list rs)) ≡ drop (suc (count_outgoing os)) (free_list rs)
     dropped = subst (λ (l : List ℕ). drop (count_outgoing os) (drop 1 l) ≡ drop (suc (count_outgoing os)) l) (sym d.free) refl
 
-none_put : (rs : List (List ℕ)) (o : Outgoing) (os : List Outgoing) (rows : List Item) (rs'' : List (List ℕ)) → EachPut rs rs'' os rows
-    → o.present ≡ false → EachPut rs rs'' (o ∷ os) rows
+none_put : (rs : List (List ℕ)) (os : List (Option Envelope)) (rows : List Item) (rs'' : List (List ℕ)) → EachPut rs rs'' os rows
+    → EachPut rs rs'' (None ∷ os) rows
 unfolding entries_to count_outgoing
-none_put rs o os rows rs'' E p = record { inboxes = λ k low. rw p (E.inboxes k low); free = rw p E.free }
+none_put rs os rows rs'' E =
+    record { inboxes = E.inboxes; free = E.free ∙ ap (λ (c : ℕ). drop c (free_list rs)) (sym (count_none os)) }
 
-pub each_put : (os : List Outgoing) (rs : List (List ℕ)) (rows : List Item) → Sound rs → AllForGroup (group_size rs) os rows → AllRead (group_size rs) os rows
+pub each_put : (os : List (Option Envelope)) (rs : List (List ℕ)) (rows : List Item) → Sound rs → AllForGroup (group_size rs) os rows → AllRead (group_size rs) os rows
     → count_outgoing os ≤ free_count rs → EachPut rs (put_each rs os rows) os rows
 unfolding put_each count_outgoing entries_to AllForGroup
 each_put [] rs rows g fit read h = record { inboxes = λ k low. sym (append-nil (inbox rs k)); free = refl }
-each_put (o ∷ os) rs rows g fit read h = step (λ rs' g' fit' read' h'. each_put os rs' rows g' fit' read' h') o.present refl h
-  where
-    step : ((rs' : List (List ℕ)) → Sound rs' → AllForGroup (group_size rs') os rows → AllRead (group_size rs') os rows → count_outgoing os ≤ free_count rs'
-        → EachPut rs' (put_each rs' os rows) os rows)
-        → (p : Bool) → o.present ≡ p → cond p (suc (count_outgoing os)) (count_outgoing os) ≤ free_count rs
-        → EachPut rs (put_each (cond p (put_in rs o.envelope rows) rs) os rows) (o ∷ os) rows
-    step rest true p b =
-        let f : ForGroup (group_size rs) o.envelope rows = fit o (Memᴰ.head refl) p in
-        let s : first_free rs ≢ 0 = some_free rs g.is_sound (omega arith) in
-        let d : PutDone rs o.envelope rows = put_done rs g o.envelope rows f s in
-        one_put rs o os rows g f s (read o (Memᴰ.head refl) p) (put_each (put_in rs o.envelope rows) os rows)
-        (rest (put_in rs o.envelope rows) d.sound
-        (λ q m z. subst (λ (n : ℕ). ForGroup n q.envelope rows) (sym d.size) (fit q (Memᴰ.tail m) z))
-        (λ q m z. subst (λ (n : ℕ). rows_of (record_bytes n 0 q.envelope rows) ≡ held_rows q.envelope.message n rows) (sym d.size) (read q (Memᴰ.tail m) z))
-        (omega (arith, d.fewer)))
-        p
-    step rest false p b =
-        none_put rs o os rows (put_each rs os rows) (rest rs g (λ q m z. fit q (Memᴰ.tail m) z) (λ q m z. read q (Memᴰ.tail m) z) b) p
+each_put (None ∷ os) rs rows g fit read h =
+    none_put rs os rows (put_each rs os rows)
+    (each_put os rs rows g (λ e m. fit e (Memᴰ.tail m)) (λ e m. read e (Memᴰ.tail m)) (omega (arith, count_none os)))
+each_put (Some e ∷ os) rs rows g fit read h =
+    let f : ForGroup (group_size rs) e rows = fit e (Memᴰ.head refl) in
+    let s : first_free rs ≢ 0 = some_free rs g.is_sound (omega (arith, count_some e os)) in
+    let d : PutDone rs e rows = put_done rs g e rows f s in
+    one_put rs e os rows g f s (read e (Memᴰ.head refl)) (put_each (put_in rs e rows) os rows)
+    (each_put os (put_in rs e rows) rows d.sound
+    (λ q m. subst (λ (n : ℕ). ForGroup n q rows) (sym d.size) (fit q (Memᴰ.tail m)))
+    (λ q m. subst (λ (n : ℕ). rows_of (record_bytes n 0 q rows) ≡ held_rows q.message n rows) (sym d.size) (read q (Memᴰ.tail m)))
+    (omega (arith, d.fewer, count_some e os)))
 
 -- ---- a message dropped
 

@@ -5,7 +5,6 @@ use Rattle.store_laws.specs.Lists.{inbox_list, without}
 use Rattle.item.specs.declared.Item.{Item}
 use Rattle.record.specs.Layout.{rows_of, held_rows}
 use Rattle.message.specs.declared.Envelope.{Envelope}
-use Rattle.message.specs.declared.Outgoing.{Outgoing}
 use Rattle.store.specs.Records.{record_in}
 use Rattle.store.specs.Sound.{message_in}
 use Rattle.protocol.specs.Deliver.{deliver_step}
@@ -21,7 +20,7 @@ use Rattle.laws_inboxes.specs.Inbox.{Entry, entries_in, inbox}
 
 -- the messages of one call, a place for each node number, and the items of the sender's rows
 pub record Sent : Type 0 where
-  pub messages : List Outgoing
+  pub messages : List (Option Envelope)
   pub rows : List Item
 
 abbrev pub nothing_sent : Sent
@@ -50,14 +49,13 @@ abbrev pub entry_of : ℕ → List Item → Envelope → ℕ → Entry
 entry_of n rows e r = record { at = r; message = Some e; rows = held_rows e.message n rows }
 
 -- the entries that these messages make in node k's inbox, each in the first record that is then free
-unfoldable pub entries_to : ℕ → ℕ → List Item → List Outgoing → List ℕ → List Entry
+unfoldable pub entries_to : ℕ → ℕ → List Item → List (Option Envelope) → List ℕ → List Entry
 entries_to n k rows [] free = []
-entries_to n k rows (o ∷ os) free =
-    cond o.present
-    (cond (eqb o.envelope.addressee k)
-    (entry_of n rows o.envelope (get_or free 0 0) ∷ entries_to n k rows os (drop 1 free))
-    (entries_to n k rows os (drop 1 free)))
-    (entries_to n k rows os free)
+entries_to n k rows (None ∷ os) free = entries_to n k rows os free
+entries_to n k rows (Some e ∷ os) free =
+    cond (eqb e.addressee k)
+    (entry_of n rows e (get_or free 0 0) ∷ entries_to n k rows os (drop 1 free))
+    (entries_to n k rows os (drop 1 free))
 
 -- what an event leaves of node k's inbox: Drop takes its record off, and "The message stays" where it is delivered
 unfoldable pub kept : Event → List (List ℕ) → ℕ → List Entry

@@ -1,15 +1,17 @@
 -- `every_from`: kept when one element is set to one that passes the test, and true of a list of one element that does. And the
--- count of peers when one more is present.
+-- count of peers when one more is counted.
 use Prim.Native.Nat.{ℕ, zero, suc, ◌+◌, ◌≤◌, ◌<◌}
 use native.Mathlib.Omega.{arith}
 use mathlib.Core.Path.{◌≡◌, refl}
-use mathlib.Core.Bool.{Bool, true, false, cond}
+use mathlib.Core.Bool.{Bool, true}
 use mathlib.Core.List.{List, [], ◌∷◌}
 use lib.ListN.{length, set, replicate}
 use Rattle.item.specs.Tests.{and_left, and_right, and_both}
 use Rattle.protocol.specs.Node.{count_peers}
 use Rattle.protocol.specs.Sound.{every_from}
-use Rattle.protocol.specs.declared.Peer.{Peer}
+use Rattle.item.specs.declared.counters.Incarnation.{Incarnation}
+use Rattle.std.specs.Prelude.{Option, Some, None}
+use Rattle.protocol.proofs.Counts.{count_none, count_some}
 
 module _ {A : Type 0} (t : ℕ → A → Bool) where
   pub every_set : (k : ℕ) (xs : List A) (i : ℕ) (x : A) → every_from t k xs ≡ true → ((j : ℕ) → j ≡ k + i → t j x ≡ true)
@@ -35,29 +37,17 @@ every_weaker t u h k (x ∷ xs) e =
     and_both (h k x (and_left (t k x) (every_from t (suc k) xs) e))
     (every_weaker t u h (suc k) xs (and_right (t k x) (every_from t (suc k) xs) e))
 
--- setting one peer adds at most one to the count
-bump : (b : Bool) (c m : ℕ) → c ≤ suc m → cond b (suc c) c ≤ suc (cond b (suc m) m)
-bump true c m h = omega arith
-bump false c m h = omega arith
+-- counting one peer adds at most one to the count
+pub one_more : (peers : List (Option Incarnation)) (q : ℕ) (i : Incarnation) → count_peers (set peers q (Some i)) ≤ suc (count_peers peers)
+one_more [] q i = omega arith
+one_more (None ∷ peers) zero i = omega (arith, count_none peers, count_some i peers)
+one_more (Some j ∷ peers) zero i = omega (arith, count_some j peers, count_some i peers)
+one_more (None ∷ peers) (suc q) i = omega (arith, count_none peers, count_none (set peers q (Some i)), one_more peers q i)
+one_more (Some j ∷ peers) (suc q) i = omega (arith, count_some j peers, count_some j (set peers q (Some i)), one_more peers q i)
 
-head_more : (b : Bool) (m : ℕ) → suc m ≤ suc (cond b (suc m) m)
-head_more true m = omega arith
-head_more false m = omega arith
-
-pub one_more : (peers : List Peer) (q : ℕ) (p : Peer) → p.present ≡ true → count_peers (set peers q p) ≤ suc (count_peers peers)
-unfolding count_peers
-one_more [] q p e = omega arith
-one_more (peer ∷ peers) zero p e = rw e (head_more peer.present (count_peers peers))
-one_more (peer ∷ peers) (suc q) p e = bump peer.present (count_peers (set peers q p)) (count_peers peers) (one_more peers q p e)
-
--- and a list in which one is present does not count to none
-some : (b : Bool) (c : ℕ) → cond b (suc c) c ≡ 0 → c ≡ 0
-some true c e = absurd (omega arith)
-some false c e = e
-
-pub not_none : (peers : List Peer) (q : ℕ) (p : Peer) → p.present ≡ true → q < length peers → count_peers (set peers q p) ≡ 0 → ⊥
-unfolding count_peers
-not_none [] q p e l z = omega arith
-not_none (peer ∷ peers) zero p e l z = absurd (omega (arith, rw e at z))
-not_none (peer ∷ peers) (suc q) p e l z =
-    not_none peers q p e (omega arith) (some peer.present (count_peers (set peers q p)) z)
+-- and a list in which one is counted does not count to none
+pub not_none : (peers : List (Option Incarnation)) (q : ℕ) (i : Incarnation) → q < length peers → count_peers (set peers q (Some i)) ≡ 0 → ⊥
+not_none [] q i l z = omega arith
+not_none (peer ∷ peers) zero i l z = omega (arith, count_some i peers)
+not_none (None ∷ peers) (suc q) i l z = not_none peers q i (omega arith) (omega (arith, count_none (set peers q (Some i))))
+not_none (Some j ∷ peers) (suc q) i l z = omega (arith, count_some j (set peers q (Some i)))

@@ -9,7 +9,6 @@ use mathlib.Core.List.{List}
 use lib.Dec.{ltb, eqb}
 use lib.ListN.{length, get_or, set}
 use borrow.Author.Tests.{ltb-true, ltb-false, eq-eqb, ne_eqb}
-use Rattle.item.specs.Counter.{same_incarnation}
 use Rattle.item.specs.Item.{zero_item}
 use Rattle.item.specs.Maxima.{max_nodes}
 use Rattle.item.specs.Tests.{by_cond, and_left, and_right, and_both}
@@ -23,12 +22,12 @@ use Rattle.protocol.specs.Phase.{is_fetching, is_up, is_storing, is_confirming, 
 use Rattle.protocol.specs.Sound.{every_from, row_use, row_sound, stage_counts, phase_counts, attempt_fits, counted_asked}
 use Rattle.protocol.specs.Storing.{asked_under}
 use Rattle.protocol.specs.declared.Node.{Node}
-use Rattle.protocol.specs.declared.Peer.{Peer}
+use Rattle.std.specs.Prelude.{Option, Some, is_some}
 use Rattle.protocol.specs.declared.Phase.TheVariants.{Returning}
 use Rattle.protocol.specs.declared.RowUse.{RowUse}
 use Rattle.protocol.specs.declared.RowUse.TheVariants as row_uses
 use Rattle.protocol.specs.declared.Stage.TheVariants.{Storing, Confirming}
-use Rattle.protocol.proofs.Counts.{peer_under}
+use Rattle.protocol.proofs.Confirming.{asked_peer}
 use Rattle.protocol.proofs.Rows.{merged_length}
 use Rattle.laws_node.proofs.Every.{every_weaker, one_more, not_none}
 use Rattle.laws_node.proofs.Outcome.{asking}
@@ -61,7 +60,7 @@ module _ (n k : ℕ) (node : Node) (S : Soundly n k node) (s : ℕ) (l : s < n) 
         → Soundly n k (with_counted node s i)
     unfolding with_counted row_use phase_counts stage_counts counted_asked
     stored_counted_lem e few =
-        let c : ℕ = count_peers (set node.counted s (peer_under i)) in
+        let c : ℕ = count_peers (set node.counted s (Some i)) in
         let less : ltb c (half n) ≡ true = subst (λ (m : ℕ). ltb c (half m) ≡ true) S.size_is few in
         record {
           number_is = S.number_is;
@@ -77,7 +76,7 @@ module _ (n k : ℕ) (node : Node) (S : Soundly n k node) (s : ℕ) (l : s < n) 
               (λ h. and_both less (and_right (ltb (count_peers node.counted) (half n)) (eqb (count_peers node.asked) 0) h))
               (λ h. and_both less (and_right (ltb (count_peers node.counted) (half n)) (eqb (count_peers node.asked) 0) h))
               node.phase e S.counts_fit;
-          among = storing_cases (λ p. counted_asked p (set node.counted s (peer_under i)) node.asked ≡ true) refl refl node.phase e;
+          among = storing_cases (λ p. counted_asked p (set node.counted s (Some i)) node.asked ≡ true) refl refl node.phase e;
         }
 
     -- the f-th Stored: the f counted are asked
@@ -85,7 +84,7 @@ module _ (n k : ℕ) (node : Node) (S : Soundly n k node) (s : ℕ) (l : s < n) 
         → Soundly n k (asking node s i)
     unfolding with_counted confirming_begun attempt_fits row_use phase_counts stage_counts counted_asked at_stage
     asking_sound e full f =
-        let peers : List Peer = set node.counted s (peer_under i) in
+        let peers : List (Option Incarnation) = set node.counted s (Some i) in
         let many : ltb (count_peers peers) (half n) ≡ false = subst (λ (m : ℕ). ltb (count_peers peers) (half m) ≡ false) S.size_is full in
         let less : ltb (count_peers node.counted) (half n) ≡ true = storing_cases
         (λ p. phase_counts p (half n) (count_peers node.counted) (count_peers node.asked) ≡ true → ltb (count_peers node.counted) (half n) ≡ true)
@@ -93,7 +92,7 @@ module _ (n k : ℕ) (node : Node) (S : Soundly n k node) (s : ℕ) (l : s < n) 
         (and_left (ltb (count_peers node.counted) (half n)) (eqb (count_peers node.asked) 0)) node.phase e S.counts_fit in
         let exactly : count_peers peers ≡ half n = omega (
           arith,
-          one_more node.counted s (peer_under i) refl,
+          one_more node.counted s i,
           ltb-true (count_peers node.counted) (half n) less,
           ltb-false (count_peers peers) (half n) many,
         ) in
@@ -117,10 +116,10 @@ module _ (n k : ℕ) (node : Node) (S : Soundly n k node) (s : ℕ) (l : s < n) 
         → ltb (count_peers (with_counted node s i).counted) (half node.n) ≡ true → Soundly n k (with_counted node s i)
     unfolding with_counted row_use phase_counts stage_counts counted_asked asked_under
     confirmed_counted_lem e under few =
-        let peers : List Peer = set node.counted s (peer_under i) in
+        let peers : List (Option Incarnation) = set node.counted s (Some i) in
         let less : ltb (count_peers peers) (half n) ≡ true = subst (λ (m : ℕ). ltb (count_peers peers) (half m) ≡ true) S.size_is few in
-        let in_asked : (peer_of node.asked s).present ≡ true
-        = and_left (peer_of node.asked s).present (same_incarnation (peer_of node.asked s).incarnation i) under in
+        let in_asked : is_some (peer_of node.asked s) ≡ true
+        = ap (λ (p : Option Incarnation). is_some p) (asked_peer (peer_of node.asked s) i under) in
         record {
           number_is = S.number_is;
           size_is = S.size_is;
@@ -174,9 +173,9 @@ module _ (n k : ℕ) (node : Node) (S : Soundly n k node) (s : ℕ) (l : s < n) 
           → Soundly n k (with_table node s i items)
       unfolding with_table with_rows with_counted row_use phase_counts counted_asked
       table_counted there few =
-          let peers : List Peer = set node.counted s (peer_under i) in
+          let peers : List (Option Incarnation) = set node.counted s (Some i) in
           let less : ltb (count_peers peers) (suc (half n)) ≡ true = subst (λ (m : ℕ). ltb (count_peers peers) (suc (half m)) ≡ true) S.size_is few in
-          let used : eqb (count_peers peers) 0 ≡ false = ne_eqb (count_peers peers) 0 (not_none node.counted s (peer_under i) refl there) in
+          let used : eqb (count_peers peers) 0 ≡ false = ne_eqb (count_peers peers) 0 (not_none node.counted s i there) in
           record {
             number_is = S.number_is;
             size_is = S.size_is;

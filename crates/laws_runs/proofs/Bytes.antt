@@ -15,7 +15,7 @@ use Rattle.record.specs.declared.kinds.Fields.{Fields}
 use Rattle.message.specs.declared.Envelope.{Envelope}
 use Rattle.message.specs.declared.Message.{Message}
 use Rattle.message.specs.declared.Message.TheVariants as message
-use Rattle.message.specs.declared.Outgoing.{Outgoing}
+use Rattle.std.specs.Prelude.{Option, Some, None}
 use Rattle.record.specs.Kind.{kind_of, fields_of}
 use Rattle.record.specs.Layout.{record_size, next_at, index_size, item_bytes, address_byte, field_bytes, rows_bytes, held_rows}
 use Rattle.record.specs.Chunk.{cut}
@@ -131,12 +131,11 @@ put_bytes rs e rows h =
     (λ _. first_bytes (taken rs e rows) e.addressee (first_free rs) (taken_bytes rs e rows h))
     (λ _. next_bytes (taken rs e rows) _ (first_free rs) (taken_bytes rs e rows h)))
 
-pub put_each_bytes : (os : List Outgoing) (rs : List (List ℕ)) (rows : List Item) → Bytewise rs → Bytewise (put_each rs os rows)
+pub put_each_bytes : (os : List (Option Envelope)) (rs : List (List ℕ)) (rows : List Item) → Bytewise rs → Bytewise (put_each rs os rows)
 unfolding put_each
 put_each_bytes [] rs rows h = h
-put_each_bytes (o ∷ os) rs rows h =
-    put_each_bytes os _ rows
-    (by_cond Bytewise o.present (put_in rs o.envelope rows) rs (λ _. put_bytes rs o.envelope rows h) (λ _. h))
+put_each_bytes (None ∷ os) rs rows h = put_each_bytes os rs rows h
+put_each_bytes (Some e ∷ os) rs rows h = put_each_bytes os (put_in rs e rows) rows (put_bytes rs e rows h)
 
 pub drop_bytes : (rs : List (List ℕ)) (k r : ℕ) → Bytewise rs → Bytewise (drop_in rs k r)
 unfolding drop_in freed unlinked

@@ -3,24 +3,26 @@ use Prim.Native.Nat.{ℕ, zero, suc, ◌+◌, ◌<◌}
 use native.Mathlib.Omega.{arith}
 use native.Mathlib.Nat.{zero-add}
 use mathlib.Core.Path.{◌≡◌, refl, sym, subst, ◌∙◌}
-use mathlib.Core.Logic.{◌≢◌, ◌⊎◌, inl, inr}
-use mathlib.Core.Bool.{Bool, true, false, cond, not, ◌&&◌, false≢true}
-use mathlib.Core.List.Memᴰ
+use mathlib.Core.Logic.{◌≢◌}
+use mathlib.Core.Bool.{Bool, true, false}
 use mathlib.Core.List.{List, [], ◌∷◌, Memᴰ}
 use lib.Dec.{eqb, ltb}
-use borrow.Author.Tests.{eqb-true, eqb-false, ltb-true, not-true}
-use Rattle.item.specs.Maxima.{max_nodes}
+use borrow.Author.Tests.{eqb-false, not-true}
 use Rattle.item.specs.Tests.{and_left, and_right}
 use Rattle.item.specs.declared.Tag.{Tag}
 use Rattle.message.specs.declared.Envelope.{Envelope}
-use Rattle.message.specs.declared.Outgoing.{Outgoing}
+use Rattle.message.specs.declared.Message.{Message}
+use Rattle.message.specs.declared.Message.TheVariants as message
+use Rattle.std.specs.Prelude.{Option, Some}
+use Rattle.item.specs.declared.counters.Incarnation.{Incarnation}
+use Rattle.returns.specs.View.{clash}
+use Rattle.protocol.proofs.Sending.{each_nothing, each_other, each_back, each_asked}
 use Rattle.protocol.specs.Answer.{ok, refused}
 use Rattle.protocol.specs.Node.{peer_of}
-use Rattle.protocol.specs.Outgoing.{goes_to, outgoing_to, outgoing_from, outgoing}
+use Rattle.protocol.specs.Outgoing.{envelope_to, outgoing}
 use Rattle.protocol.specs.Sound.{every_from, peer_sound, peers_sound, sound_node}
 use Rattle.protocol.specs.Write.{send_store, send_fetch, write_step, retry_step, crash_step, start_step}
 use Rattle.protocol.specs.declared.Node.{Node}
-use Rattle.protocol.specs.declared.Peer.{Peer}
 use Rattle.protocol.specs.declared.Refusal.{Refusal}
 use Rattle.protocol.specs.declared.Sends.{Sends}
 use Rattle.protocol.specs.declared.Sends.TheVariants as sends
@@ -28,17 +30,17 @@ use Rattle.protocol.specs.declared.Step.{Step}
 use Rattle.protocol.proofs.Cases.{write_cases, retry_cases, crash_cases, start_cases}
 use Rattle.protocol.proofs.InView.{number_is, size_is}
 
--- a present peer of a sound list is another node
-peer_other : (k n at : ℕ) (peers : List Peer) (to : ℕ) → every_from (peer_sound k n) at peers ≡ true → (peer_of peers to).present ≡ true
-    → at + to ≢ k
+-- a peer of a sound list is another node
+peer_other : (k n at : ℕ) (peers : List (Option Incarnation)) (to : ℕ) (o : Incarnation) → every_from (peer_sound k n) at peers ≡ true
+    → peer_of peers to ≡ Some o → at + to ≢ k
 unfolding every_from peer_sound peer_of
-peer_other k n at [] to e p z = false≢true p
-peer_other k n at (q ∷ peers) zero e p z =
-    let s : cond q.present (ltb at n && not (eqb at k)) _ ≡ true = and_left (peer_sound k n at q) (every_from (peer_sound k n) (suc at) peers) e in
-    let t : (ltb at n && not (eqb at k)) ≡ true = rw p at s in
-    eqb-false at k (not-true (eqb at k) (and_right (ltb at n) _ t)) (omega arith)
-peer_other k n at (q ∷ peers) (suc to) e p z =
-    peer_other k n (suc at) peers to (and_right (peer_sound k n at q) (every_from (peer_sound k n) (suc at) peers) e) p (omega arith)
+peer_other k n at [] to o e p z = clash (cc)
+peer_other k n at (q ∷ peers) zero o e p z =
+    let s : peer_sound k n at (Some o) ≡ true =
+    subst (λ (r : Option Incarnation). peer_sound k n at r ≡ true) p (and_left (peer_sound k n at q) (every_from (peer_sound k n) (suc at) peers) e) in
+    eqb-false at k (not-true (eqb at k) (and_right (ltb at n) _ s)) (omega arith)
+peer_other k n at (q ∷ peers) (suc to) o e p z =
+    peer_other k n (suc at) peers to o (and_right (peer_sound k n at q) (every_from (peer_sound k n) (suc at) peers) e) p (omega arith)
 
 asked_sound : (n k : ℕ) (node : Node) → sound_node n k node ≡ true → every_from (peer_sound k n) 0 node.asked ≡ true
 unfolding sound_node peers_sound
@@ -51,46 +53,26 @@ is_back (sends.Back message) = true
 is_back (sends.Others message) = false
 is_back (sends.Asked attempt item) = false
 
-module _ (n k back : ℕ) (node : Node) (e : sound_node n k node ≡ true) where
-  goes_other : (s : Sends) → (is_back s ≡ true → back ≢ k) → (to : ℕ) → goes_to s node back to ≡ true → k ≢ to
-  unfolding goes_to is_back
-  goes_other sends.Nothing b to g z = false≢true g
-  goes_other (sends.Back message) b to g z = b refl (sym (eqb-true to back g) ∙ sym z)
-  goes_other (sends.Others message) b to g z =
-      eqb-false to node.number (not-true (eqb to node.number) g) (sym z ∙ sym (number_is n k node e))
-  goes_other (sends.Asked attempt item) b to g z = peer_other k n 0 node.asked to (asked_sound n k node e) g (zero-add to ∙ sym z)
-
 -- sender and addressee of what is sent
 pub record Going (n k : ℕ) (e : Envelope) : Type 0 where
   pub from_k : e.sender ≡ k
   pub to_group : e.addressee < n
   pub to_other : k ≢ e.addressee
 
-module _ (n k back : ℕ) (node : Node) (e : sound_node n k node ≡ true) (s : Sends) (b : is_back s ≡ true → back ≢ k) where
-  going_to : (to : ℕ) → (outgoing_to node s back to).present ≡ true → Going n k (outgoing_to node s back to).envelope
-  unfolding outgoing_to
-  going_to to p =
-      let low : to < node.n = ltb-true to node.n (and_left (ltb to node.n) (goes_to s node back to) p) in
+module _ (n k back : ℕ) (node : Node) (e : sound_node n k node ≡ true) where
+  going_to : (to : ℕ) (m : Message) → to < node.n → k ≢ to → Going n k (envelope_to node to m)
+  going_to to m low d =
       let size : node.n ≡ n = size_is n k node e in
-      record {
-        from_k = number_is n k node e;
-        to_group = omega arith;
-        to_other = goes_other n k back node e s b to (and_right (ltb to node.n) (goes_to s node back to) p);
-      }
+      record { from_k = number_is n k node e; to_group = omega arith; to_other = d }
 
-  going_from : (at count : ℕ) (o : Outgoing) → Memᴰ o (outgoing_from node s back at count) → o.present ≡ true → Going n k o.envelope
-  unfolding outgoing_from
-  going_from at zero o m p = absurd (Memᴰ.not-nil m)
-  going_from at (suc count) o m p = go (going_from (suc at) count o) (Memᴰ.cases_cons m)
-    where
-      go : (Memᴰ o (outgoing_from node s back (suc at) count) → o.present ≡ true → Going n k o.envelope)
-          → (o ≡ outgoing_to node s back at) ⊎ Memᴰ o (outgoing_from node s back (suc at) count) → Going n k o.envelope
-      go r (inl z) = subst (λ (q : Outgoing). q.present ≡ true → Going n k q.envelope) (sym z) (going_to at) p
-      go r (inr j) = r j p
-
-  pub going : (o : Outgoing) → Memᴰ o (outgoing node s back) → o.present ≡ true → Going n k o.envelope
-  unfolding outgoing
-  going = going_from 0 max_nodes
+  pub going : (s : Sends) → (is_back s ≡ true → back ≢ k) → (d : Envelope) → Memᴰ (Some d) (outgoing node s back) → Going n k d
+  unfolding is_back
+  going sends.Nothing b = each_nothing (Going n k) node back
+  going (sends.Back m) b = each_back (Going n k) node back m (λ l. going_to back m l (λ z. b refl (sym z)))
+  going (sends.Others m) b = each_other (Going n k) node back m (λ to l d. going_to to m l (λ z. d (sym z ∙ sym (number_is n k node e))))
+  going (sends.Asked a i) b = each_asked (Going n k) node back a i
+      (λ to l o p. going_to to (message.Confirm o a i) l
+      (λ z. peer_other k n 0 node.asked to o (asked_sound n k node e) p (zero-add to ∙ sym z)))
 
 -- ---- a call answers nobody
 

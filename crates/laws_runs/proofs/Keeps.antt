@@ -15,7 +15,6 @@ use Rattle.item.specs.Tests.{by_cond, and_left, and_right, and_both}
 use Rattle.item.specs.declared.Tag.{Tag}
 use Rattle.record.specs.Layout.{rows_of, held_rows}
 use Rattle.message.specs.declared.Envelope.{Envelope}
-use Rattle.message.specs.declared.Outgoing.{Outgoing}
 use Rattle.record.specs.Record.{read_record, record_bytes}
 use Rattle.record.specs.RoundTrip.{Fits, RowsFit, ReadsBack}
 use Rattle.record.proofs.RoundTripLaws.{reads_back}
@@ -146,8 +145,8 @@ module _ (n : ℕ) (table : List Node) (store : List ℕ) (G : SoundGroup n tabl
         let most : n ≤ max_nodes = size_fits n group_valid in
         omega arith
 
-    envelope_fits : (o : Outgoing) → Memᴰ o (outgoing step.node step.sends back) → o.present ≡ true → Fits o.envelope
-    envelope_fits = outgoing_fits step.node step.sends back D.fits.node_fits D.fits.sends_fit number_low size_low
+    envelope_fits : (e : Envelope) → Memᴰ (Some e) (outgoing step.node step.sends back) → Fits e
+    envelope_fits = outgoing_fits step.node back D.fits.node_fits number_low size_low step.sends D.fits.sends_fit
 
     items_fit_lem : RowsFit (row_items step.node)
     items_fit_lem = rows_fit (row_items step.node) (node_items_fit step.node D.fits.node_fits)
@@ -155,16 +154,16 @@ module _ (n : ℕ) (table : List Node) (store : List ℕ) (G : SoundGroup n tabl
     -- what it sends may be put, and reads back with the rows beside it
     pub all_for_group : AllForGroup (group_size (records_of store)) (outgoing step.node step.sends back) (row_items step.node)
     unfolding AllForGroup
-    all_for_group o m p =
-        let g : Going n k o.envelope = going n k back step.node D.sound step.sends D.other o m p in
-        subst (λ (i : ℕ). ForGroup i o.envelope (row_items step.node)) (sym G.size)
-        (for_group n o.envelope (row_items step.node) (omega (arith, g.from_k, D.low)) g.to_group (λ z. g.to_other (sym g.from_k ∙ z))
-        (envelope_fits o m p) items_fit_lem)
+    all_for_group e m =
+        let g : Going n k e = going n k back step.node D.sound step.sends D.other e m in
+        subst (λ (i : ℕ). ForGroup i e (row_items step.node)) (sym G.size)
+        (for_group n e (row_items step.node) (omega (arith, g.from_k, D.low)) g.to_group (λ z. g.to_other (sym g.from_k ∙ z))
+        (envelope_fits e m) items_fit_lem)
 
-    pub all_read : (o : Outgoing) → Memᴰ o (outgoing step.node step.sends back) → o.present ≡ true
-        → rows_of (record_bytes n 0 o.envelope (row_items step.node)) ≡ held_rows o.envelope.message n (row_items step.node)
+    pub all_read : (e : Envelope) → Memᴰ (Some e) (outgoing step.node step.sends back)
+        → rows_of (record_bytes n 0 e (row_items step.node)) ≡ held_rows e.message n (row_items step.node)
     unfolding ReadsBack
-    all_read o m p = (reads_back n 0 o.envelope (row_items step.node) (omega arith) (envelope_fits o m p) items_fit_lem).1
+    all_read e m = (reads_back n 0 e (row_items step.node) (omega arith) (envelope_fits e m) items_fit_lem).1
 
     pub records_are : records_of (joined (put_each (records_of store) (outgoing step.node step.sends back) (row_items step.node)))
         ≡ put_each (records_of store) (outgoing step.node step.sends back) (row_items step.node)

@@ -43,10 +43,3 @@ pub struct Envelope {
     pub incarnation: Incarnation,
     pub message: Message,
 }
-
-// A place for one message of a call that sends to several nodes: whether there is one, and the message.
-#[derive(Clone, Copy, PartialEq, Eq)]
-pub struct Outgoing {
-    pub present: bool,
-    pub envelope: Envelope,
-}

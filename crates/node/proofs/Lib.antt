@@ -1,3 +1,2 @@
 pub mod Array
-pub mod Count
 pub mod Answered

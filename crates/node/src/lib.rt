@@ -18,21 +18,16 @@ pub use stage::{confirming_begun, storing_begun, write_ended};
 
 // The row of node i; past the last row, the zero row.
 #[tactic(auto, unfolding(protocol::specs::Node::row_of))]
-fn row_of(node: Node, i: usize) -> Row
-    ensures { result ≡ row_of node i }
+pub fn row_of(node: &Node, i: usize) -> Row
+    ensures { result ≡ row_of node.now i }
 {
-    if Node::MAX_ROWS <= i {
-        return Row::zero();
-    }
-    node.rows[i]
+    node.rows.get(i).copied().unwrap_or(Row::zero())
 }
 
 // The item in the node's own row.
 #[tactic(auto, unfolding(protocol::specs::Node::own_item))]
-pub fn own_item(node: Node) -> Item
-    ensures { result ≡ own_item node }
+pub fn own_item(node: &Node) -> Item
+    ensures { result ≡ own_item node.now }
 {
-    let number = node.number;
-    let row = row_of(node, number);
-    row.item
+    row_of(node, node.number).item
 }

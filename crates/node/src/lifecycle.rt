@@ -2,35 +2,25 @@
 ghost use Rattle.std.specs.Prelude.{◌≡◌};
 ghost use Rattle.protocol.specs.Node.{crashed as crashed_node, started as started_node, fresh_node};
 
-use item::{Attempt, Incarnation, Row};
-use protocol::{Node, Peer, Phase, Stage};
+use item::Incarnation;
+use protocol::{Node, Phase, Stage};
 
 // Down; only number, n and incarnation remain.
 #[tactic(auto, unfolding(protocol::specs::Node::crashed))]
 pub fn crashed(node: Node) -> Node
     ensures { result ≡ crashed_node node }
 {
-    let incarnation = node.incarnation;
-    Node::blank(node.number, node.n, incarnation)
+    Node::blank(node.number, node.n, node.incarnation)
 }
 
 // Fetching in the next incarnation, and nothing is known yet.
-#[tactic(auto, unfolding(protocol::specs::Node::started))]
+#[tactic(auto, unfolding(protocol::specs::Node::started, protocol::specs::Node::blank_node))]
 pub fn started(node: Node) -> Node
     ensures { result ≡ started_node node }
 {
-    let incarnation = node.incarnation;
-    let row = Row::zero();
-    let peer = Peer::none();
     Node {
-        number: node.number,
-        n: node.n,
-        incarnation: incarnation.next(),
-        attempt: Attempt(0),
         phase: Phase::Fetching,
-        rows: [row; Node::MAX_ROWS],
-        counted: [peer; Node::MAX_ROWS],
-        asked: [peer; Node::MAX_ROWS],
+        ..Node::blank(node.number, node.n, node.incarnation.next())
     }
 }
 
@@ -39,17 +29,8 @@ pub fn started(node: Node) -> Node
 pub fn fresh_node(number: usize, n: usize) -> Node
     ensures { result ≡ fresh_node number n }
 {
-    let attempt = Attempt(0);
-    let row = Row::zero();
-    let peer = Peer::none();
     Node {
-        number: number,
-        n: n,
-        incarnation: Incarnation(1),
-        attempt: attempt,
         phase: Phase::Up(Stage::Idle),
-        rows: [row; Node::MAX_ROWS],
-        counted: [peer; Node::MAX_ROWS],
-        asked: [peer; Node::MAX_ROWS],
+        ..Node::blank(number, n, Incarnation(1))
     }
 }

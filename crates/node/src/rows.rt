@@ -4,35 +4,28 @@ ghost use Rattle.std.specs.Prelude.{◌≡◌};
 ghost use Rattle.protocol.specs.Node.{with_row, with_counted, with_rows};
 
 use item::{Incarnation, Row};
-use protocol::{Node, Peer};
+use protocol::Node;
 
 // One row is replaced; past the last row nothing is.
 #[tactic(auto, unfolding(protocol::specs::Node::with_row))]
-pub fn with_row(node: Node, i: usize, row: Row) -> Node
+pub fn with_row(mut node: Node, i: usize, row: Row) -> Node
     ensures { result ≡ with_row node i row }
 {
-    if Node::MAX_ROWS <= i {
-        return node;
+    if i < Node::MAX_ROWS {
+        node.rows[i] = row;
     }
-    let mut next = node;
-    next.rows[i] = row;
-    next
+    node
 }
 
 // The sender is counted, under this incarnation; past the last nobody is.
 #[tactic(auto, unfolding(protocol::specs::Node::with_counted))]
-pub fn with_counted(node: Node, sender: usize, incarnation: Incarnation) -> Node
+pub fn with_counted(mut node: Node, sender: usize, incarnation: Incarnation) -> Node
     ensures { result ≡ with_counted node sender incarnation }
 {
-    if Node::MAX_ROWS <= sender {
-        return node;
+    if sender < Node::MAX_ROWS {
+        node.counted[sender] = Some(incarnation);
     }
-    let mut next = node;
-    next.counted[sender] = Peer {
-        present: true,
-        incarnation: incarnation,
-    };
-    next
+    node
 }
 
 // Every row is replaced.
@@ -40,7 +33,5 @@ pub fn with_counted(node: Node, sender: usize, incarnation: Incarnation) -> Node
 pub fn with_rows(node: Node, rows: [Row; Node::MAX_ROWS]) -> Node
     ensures { result ≡ with_rows node rows }
 {
-    let mut next = node;
-    next.rows = rows;
-    next
+    Node { rows, ..node }
 }

@@ -4,33 +4,25 @@ ghost use Rattle.protocol.specs.Node.{storing_begun, confirming_begun, write_end
 
 use crate::rows::with_row;
 use item::{Attempt, Item, Row};
-use protocol::{Node, Peer, Phase, Stage};
+use protocol::{Node, Phase, Stage};
 
 // A write begins or begins again: the own row takes the item with these counters, and nobody is counted or asked.
 #[tactic(auto, unfolding(protocol::specs::Node::storing_begun, protocol::specs::Node::with_row))]
 pub fn storing_begun(node: Node, phase: Phase, attempt: Attempt, item: Item) -> Node
     ensures { result ≡ storing_begun node phase attempt item }
 {
-    let number = node.number;
-    let incarnation = node.incarnation;
     let row = Row {
-        item: item,
-        incarnation: incarnation,
-        attempt: attempt,
+        item,
+        incarnation: node.incarnation,
+        attempt,
         marked: false,
     };
-    let next = with_row(node, number, row);
-    let rows = next.rows;
-    let peer = Peer::none();
     Node {
-        number: number,
-        n: node.n,
-        incarnation: incarnation,
-        attempt: attempt,
-        phase: phase,
-        rows: rows,
-        counted: [peer; Node::MAX_ROWS],
-        asked: [peer; Node::MAX_ROWS],
+        attempt,
+        phase,
+        counted: [None; Node::MAX_ROWS],
+        asked: [None; Node::MAX_ROWS],
+        ..with_row(node, node.number, row)
     }
 }
 
@@ -39,20 +31,12 @@ pub fn storing_begun(node: Node, phase: Phase, attempt: Attempt, item: Item) -> 
 pub fn confirming_begun(node: Node, phase: Phase) -> Node
     ensures { result ≡ confirming_begun node phase }
 {
-    let incarnation = node.incarnation;
-    let attempt = node.attempt;
-    let rows = node.rows;
     let asked = node.counted;
-    let peer = Peer::none();
     Node {
-        number: node.number,
-        n: node.n,
-        incarnation: incarnation,
-        attempt: attempt,
-        phase: phase,
-        rows: rows,
-        counted: [peer; Node::MAX_ROWS],
-        asked: asked,
+        phase,
+        counted: [None; Node::MAX_ROWS],
+        asked,
+        ..node
     }
 }
 
@@ -61,18 +45,10 @@ pub fn confirming_begun(node: Node, phase: Phase) -> Node
 pub fn write_ended(node: Node) -> Node
     ensures { result ≡ write_ended node }
 {
-    let incarnation = node.incarnation;
-    let attempt = node.attempt;
-    let rows = node.rows;
-    let peer = Peer::none();
     Node {
-        number: node.number,
-        n: node.n,
-        incarnation: incarnation,
-        attempt: attempt,
         phase: Phase::Up(Stage::Idle),
-        rows: rows,
-        counted: [peer; Node::MAX_ROWS],
-        asked: [peer; Node::MAX_ROWS],
+        counted: [None; Node::MAX_ROWS],
+        asked: [None; Node::MAX_ROWS],
+        ..node
     }
 }

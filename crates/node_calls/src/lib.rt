@@ -10,5 +10,5 @@ mod writing;
 pub use requests::send_store;
 pub use restarting::{crash, start};
 pub use retrying::retry;
-pub use step::{ok, refused};
+pub use step::ok;
 pub use writing::write;

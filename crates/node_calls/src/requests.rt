@@ -2,35 +2,27 @@
 ghost use Rattle.std.specs.Prelude.{◌≡◌};
 ghost use Rattle.protocol.specs.Write.{send_store, send_fetch};
 
+use crate::step::ok;
 use message::Message;
 use node::own_item;
-use protocol::{Answer, Node, Sends, Step};
+use protocol::{Node, Sends, Step};
 
 // Store goes to every other node, with the attempt and item of the write that has begun.
-#[tactic(auto, unfolding(protocol::specs::Write::send_store, protocol::specs::Answer::ok))]
+#[tactic(auto, unfolding(protocol::specs::Write::send_store))]
 pub fn send_store(node: Node) -> Step
     ensures { result ≡ send_store node }
 {
-    let attempt = node.attempt;
-    let item = own_item(node);
-    Step {
-        answer: Answer::Ok,
-        node: node,
-        sends: Sends::Others(Message::Store {
-            attempt: attempt,
-            item: item,
-        }),
-    }
+    let store = Message::Store {
+        attempt: node.attempt,
+        item: own_item(&node),
+    };
+    ok(node, Sends::Others(store))
 }
 
 // Fetch goes to every other node.
-#[tactic(auto, unfolding(protocol::specs::Write::send_fetch, protocol::specs::Answer::ok))]
+#[tactic(auto, unfolding(protocol::specs::Write::send_fetch))]
 pub fn send_fetch(node: Node) -> Step
     ensures { result ≡ send_fetch node }
 {
-    Step {
-        answer: Answer::Ok,
-        node: node,
-        sends: Sends::Others(Message::Fetch),
-    }
+    ok(node, Sends::Others(Message::Fetch))
 }

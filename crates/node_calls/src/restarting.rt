@@ -1,38 +1,35 @@
-// Crash and Start of one node by value: its answer, the node afterwards, and what it sends.
+// Crash and Start of one node by value: the refusal, or the answer, the node afterwards and what it sends.
 ghost use Rattle.std.specs.Prelude.{◌≡◌};
+ghost use Rattle.protocol.specs.Answer.{step_after};
 ghost use Rattle.protocol.specs.Write.{crash_step, start_step};
 
 use crate::requests::send_fetch;
-use crate::step::{ok, refused};
+use crate::step::ok;
 use node::{crashed, started};
 use phase::is_down;
 use protocol::{Node, Refusal, Sends, Step};
 
 // Crash: refused with 5; otherwise the node is Down, and only number, n and incarnation remain.
-#[tactic(auto, unfolding(protocol::specs::Write::crash_step))]
-pub fn crash(node: Node) -> Step
-    ensures { result ≡ crash_step node }
+#[tactic(auto, unfolding(protocol::specs::Answer::step_after, protocol::specs::Write::crash_step))]
+pub fn crash(node: Node) -> Result<Step, Refusal>
+    ensures { step_after node result ≡ crash_step node }
 {
-    let phase = node.phase;
-    if is_down(phase) {
-        return refused(node, Refusal::WrongStage);
+    if is_down(node.phase) {
+        return Err(Refusal::WrongStage);
     }
-    let next = crashed(node);
-    ok(next, Sends::Nothing)
+    Ok(ok(crashed(node), Sends::Nothing))
 }
 
 // Start: refused with 5 or 6; otherwise the node is Fetching in its next incarnation, and Fetch goes to all others.
-#[tactic(auto, unfolding(protocol::specs::Write::start_step))]
-pub fn start(node: Node) -> Step
-    ensures { result ≡ start_step node }
+#[tactic(auto, unfolding(protocol::specs::Answer::step_after, protocol::specs::Write::start_step))]
+pub fn start(node: Node) -> Result<Step, Refusal>
+    ensures { step_after node result ≡ start_step node }
 {
-    let phase = node.phase;
-    if !is_down(phase) {
-        return refused(node, Refusal::WrongStage);
+    if !is_down(node.phase) {
+        return Err(Refusal::WrongStage);
     }
     if node.incarnation.at_largest() {
-        return refused(node, Refusal::AtLargest);
+        return Err(Refusal::AtLargest);
     }
-    let next = started(node);
-    send_fetch(next)
+    Ok(send_fetch(started(node)))
 }

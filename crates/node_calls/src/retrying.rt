@@ -1,9 +1,9 @@
-// Retry of one node by value: its answer, the node afterwards, and what it sends.
+// Retry of one node by value: the refusal, or the answer, the node afterwards and what it sends.
 ghost use Rattle.std.specs.Prelude.{◌≡◌};
+ghost use Rattle.protocol.specs.Answer.{step_after};
 ghost use Rattle.protocol.specs.Write.{retried as retried_node, nothing_to_retry, retry_step};
 
 use crate::requests::{send_fetch, send_store};
-use crate::step::refused;
 use node::{own_item, storing_begun};
 use phase::{at_stage, is_down, is_fetching, is_idle};
 use protocol::{Node, Refusal, Stage, Step};
@@ -13,10 +13,9 @@ use protocol::{Node, Refusal, Stage, Step};
 fn retried(node: Node) -> Node
     ensures { result ≡ retried_node node }
 {
-    let phase = node.phase;
-    let storing = at_stage(phase, Stage::Storing);
+    let storing = at_stage(node.phase, Stage::Storing);
     let attempt = node.attempt.next();
-    let item = own_item(node);
+    let item = own_item(&node);
     storing_begun(node, storing, attempt, item)
 }
 
@@ -25,28 +24,22 @@ fn retried(node: Node) -> Node
 fn nothing_to_retry(node: Node) -> bool
     ensures { result ≡ nothing_to_retry node }
 {
-    let phase = node.phase;
-    if is_down(phase) {
-        return true;
-    }
-    is_idle(phase)
+    is_down(node.phase) || is_idle(node.phase)
 }
 
 // Retry: refused with 5 or 6; otherwise Fetch goes to all others again, or Store does under the next attempt.
-#[tactic(auto, unfolding(protocol::specs::Write::retry_step))]
-pub fn retry(node: Node) -> Step
-    ensures { result ≡ retry_step node }
+#[tactic(auto, unfolding(protocol::specs::Answer::step_after, protocol::specs::Write::retry_step))]
+pub fn retry(node: Node) -> Result<Step, Refusal>
+    ensures { step_after node result ≡ retry_step node }
 {
     if nothing_to_retry(node) {
-        return refused(node, Refusal::WrongStage);
+        return Err(Refusal::WrongStage);
     }
-    let phase = node.phase;
-    if is_fetching(phase) {
-        return send_fetch(node);
+    if is_fetching(node.phase) {
+        return Ok(send_fetch(node));
     }
     if node.attempt.at_largest() {
-        return refused(node, Refusal::AtLargest);
+        return Err(Refusal::AtLargest);
     }
-    let next = retried(node);
-    send_store(next)
+    Ok(send_store(retried(node)))
 }

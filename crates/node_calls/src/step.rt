@@ -1,20 +1,8 @@
-// The two shapes of a step, a refusal and "ok".
+// The step of a decision that is not refused.
 ghost use Rattle.std.specs.Prelude.{◌≡◌};
-ghost use Rattle.protocol.specs.Answer.{ok as ok_step, refused as refused_step};
+ghost use Rattle.protocol.specs.Answer.{ok as ok_step};
 
-use protocol::{Answer, Node, Refusal, Sends, Step};
-
-// A refusal: the node as it was, and nothing sent.
-#[tactic(auto, unfolding(protocol::specs::Answer::refused))]
-pub fn refused(node: Node, why: Refusal) -> Step
-    ensures { result ≡ refused_step node why }
-{
-    Step {
-        answer: Answer::Refused(why),
-        node: node,
-        sends: Sends::Nothing,
-    }
-}
+use protocol::{Answer, Node, Sends, Step};
 
 // The answer "ok", with what is sent.
 #[tactic(auto, unfolding(protocol::specs::Answer::ok))]

@@ -28,28 +28,36 @@ use Rattle.record.specs.Layout.{index_size}
 use Rattle.record.specs.RoundTrip.{ItemFits}
 use Rattle.protocol.specs.Answer.{ok, refused}
 use Rattle.protocol.specs.Merge.{merge_row, merge_rows}
-use Rattle.protocol.specs.Node.{no_peer, no_peers, zero_rows, row_of, own_item, stored_row, peer_of, blank_node, crashed, started, storing_begun, write_ended}
-use Rattle.protocol.specs.Outgoing.{message_to}
+use Rattle.protocol.specs.Node.{no_peers, zero_rows, row_of, own_item, stored_row, peer_of, blank_node, crashed, started, storing_begun, write_ended}
 use Rattle.protocol.specs.Phase.{is_down, is_up_idle, is_fetching}
 use Rattle.protocol.specs.Write.{send_store, send_fetch, next_item, written, write_at_largest, write_step, retried, nothing_to_retry, retry_step, crash_step, start_step}
 use Rattle.protocol.specs.declared.Node.{Node}
 use Rattle.protocol.specs.declared.Phase.{Phase}
 use Rattle.protocol.specs.declared.Refusal.{Refusal}
+use Rattle.protocol.specs.declared.Sends.{Sends}
 use Rattle.protocol.specs.declared.Sends.TheVariants as sends
+use Rattle.std.specs.Prelude.{Option, None}
 use Rattle.protocol.specs.declared.Step.{Step}
-use Rattle.operations.specs.Fits.{CounterFits, NodeFits}
+use Rattle.operations.specs.Fits.{CounterFits, PeerFits, NodeFits}
 
 pub record MessageFits (m : Message) : Type 0 where
   pub other_fits : CounterFits (other_of m).0
   pub attempt_fits : CounterFits (attempt_of m).0
   pub item_fits : ItemFits (item_of m)
 
+-- what is sent; the incarnations in a Confirm are the node's own peers'
+abbrev pub SendsFit : Sends → Type 0
+SendsFit sends.Nothing = Unit {0}
+SendsFit (sends.Back m) = MessageFits m
+SendsFit (sends.Others m) = MessageFits m
+SendsFit (sends.Asked a item) = CounterFits a.0 × ItemFits item
+
 -- the decision of a node: its number and its group stay, and all that it keeps and sends fits
 pub record StepFits (node : Node) (step : Step) : Type 0 where
   pub same_number : step.node.number ≡ node.number
   pub same_size : step.node.n ≡ node.n
   pub node_fits : NodeFits step.node
-  pub sends_fit : (k : ℕ) → MessageFits (message_to step.sends step.node k)
+  pub sends_fit : SendsFit step.sends
 
 -- ---- numbers
 
@@ -114,9 +122,9 @@ merged_fit first (row ∷ rows) (item ∷ items) r h (suc i) = merged_fit first 
 
 -- ---- nodes
 
-pub none_fits : (i : ℕ) → CounterFits (peer_of no_peers i).incarnation.0
+pub none_fits : (i : ℕ) → PeerFits (peer_of no_peers i)
 unfolding peer_of
-none_fits i = rw (get_or_same max_nodes i no_peer) (omega arith)
+none_fits i = rw (get_or_same {A = Option Incarnation} max_nodes i None) tt
 
 zeros_fit : (i : ℕ) → ItemFits (get_or zero_rows i zero_row).item
 zeros_fit i = rw (get_or_same max_nodes i zero_row) zero_fits
@@ -157,14 +165,14 @@ module _ (node : Node) (N : NodeFits node) where
   -- the write that has begun is sent
   pub store_sent : (phase : Phase) (a : Attempt) (item : Item) → CounterFits a.0 → ItemFits item
       → StepFits node (send_store (storing_begun node phase a item))
-  unfolding send_store ok message_to own_item other_of attempt_of item_of storing_begun
+  unfolding send_store ok own_item other_of attempt_of item_of storing_begun
   store_sent phase a item h k =
       let S : NodeFits (storing_begun node phase a item) = storing_fits phase a item h k in
       record {
         same_number = refl;
         same_size = refl;
         node_fits = S;
-        sends_fit = λ _. record { other_fits = omega arith; attempt_fits = h; item_fits = S.items_fit node.number };
+        sends_fit = record { other_fits = omega arith; attempt_fits = h; item_fits = S.items_fit node.number };
       }
 
   pub fetch_fits : MessageFits message.Fetch
@@ -172,22 +180,22 @@ module _ (node : Node) (N : NodeFits node) where
   fetch_fits = record { other_fits = omega arith; attempt_fits = omega arith; item_fits = zero_fits }
 
   pub by_refused : (why : Refusal) → StepFits node (refused node why)
-  unfolding refused message_to
-  by_refused why = record { same_number = refl; same_size = refl; node_fits = N; sends_fit = λ _. fetch_fits }
+  unfolding refused
+  by_refused why = record { same_number = refl; same_size = refl; node_fits = N; sends_fit = tt }
 
   -- the node as it is, and an answer sent
   pub by_answer : (m : Message) → MessageFits m → StepFits node (ok node (sends.Back m))
-  unfolding ok message_to
-  by_answer m h = record { same_number = refl; same_size = refl; node_fits = N; sends_fit = λ _. h }
+  unfolding ok
+  by_answer m h = record { same_number = refl; same_size = refl; node_fits = N; sends_fit = h }
 
 -- nothing sent
 pub by_quiet : (node after : Node) → after.number ≡ node.number → after.n ≡ node.n → NodeFits after → StepFits node (ok after sends.Nothing)
-unfolding ok message_to
-by_quiet node after e e' h = record { same_number = e; same_size = e'; node_fits = h; sends_fit = λ _. fetch_fits after h }
+unfolding ok
+by_quiet node after e e' h = record { same_number = e; same_size = e'; node_fits = h; sends_fit = tt }
 
 by_fetch : (node after : Node) → after.number ≡ node.number → after.n ≡ node.n → NodeFits after → StepFits node (send_fetch after)
-unfolding send_fetch ok message_to
-by_fetch node after e e' h = record { same_number = e; same_size = e'; node_fits = h; sends_fit = λ _. fetch_fits after h }
+unfolding send_fetch ok
+by_fetch node after e e' h = record { same_number = e; same_size = e'; node_fits = h; sends_fit = fetch_fits after h }
 
 -- ---- Write, Retry, Crash, Start
 

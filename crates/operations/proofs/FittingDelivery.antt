@@ -3,7 +3,7 @@
 use Prim.Native.Nat.{ℕ}
 use native.Mathlib.Omega.{arith}
 use mathlib.Core.Path.{◌≡◌, refl, ◌∙◌}
-use mathlib.Core.Bool.{Bool, true, cond, ◌&&◌}
+use mathlib.Core.Bool.{Bool, cond, ◌&&◌}
 use mathlib.Core.List.{List}
 use lib.ListN.{get_or}
 use Rattle.item.specs.Item.{zero_item}
@@ -18,26 +18,25 @@ use Rattle.message.specs.declared.Message.{Message}
 use Rattle.message.specs.declared.Message.TheVariants as message
 use Rattle.record.specs.Kind.{other_of, attempt_of, item_of}
 use Rattle.record.specs.RoundTrip.{ItemFits}
-use Rattle.operations.specs.Fits.{CounterFits, NodeFits}
-use Rattle.operations.proofs.Fitting.{MessageFits, StepFits, zero_fits, set_any, merged_fit, none_fits, crashed_fits, ended_fits, own_fits, store_sent, fetch_fits, by_refused, by_answer, by_quiet}
+use Rattle.operations.specs.Fits.{CounterFits, PeerFits, NodeFits}
+use Rattle.operations.proofs.Fitting.{MessageFits, StepFits, zero_fits, set_any, merged_fit, none_fits, crashed_fits, ended_fits, own_fits, store_sent, by_refused, by_answer, by_quiet}
 use Rattle.protocol.specs.Answer.{ok, refused}
 use Rattle.protocol.specs.Deliver.{on_message, deliver_step}
 use Rattle.protocol.specs.Fetching.{on_fetch, on_table, table_counted, with_table, none_counted, node_recover, has_conflict, stopped, written_back}
 use Rattle.protocol.specs.Merge.{merge_rows}
-use Rattle.protocol.specs.Node.{no_peer, row_of, own_item, stored_row, peer_of, blank_node, crashed, with_row, with_counted, confirming_begun, write_ended, with_rows, below_half, at_most_half, own_incarnation}
-use Rattle.protocol.specs.Outgoing.{message_to}
+use Rattle.protocol.specs.Node.{row_of, own_item, stored_row, peer_of, blank_node, crashed, with_row, with_counted, confirming_begun, write_ended, with_rows, below_half, at_most_half, own_incarnation}
 use Rattle.protocol.specs.Phase.{is_up, is_fetching, is_storing, is_confirming}
 use Rattle.protocol.specs.Storing.{store_verdict, reply_store, on_store, own_write, is_counted, send_confirm, stored_counted, on_stored, stored_under, on_confirm, asked_under, store_success, confirmed_counted, on_confirmed}
 use Rattle.protocol.specs.declared.Node.{Node}
-use Rattle.protocol.specs.declared.Peer.{Peer}
+use Rattle.protocol.specs.declared.Refusal.{Refusal}
+use Rattle.std.specs.Prelude.{Some, None, Ok, Err}
+use Rattle.std.specs.Prelude.{Result}
 use Rattle.protocol.specs.declared.Phase.{Phase}
 use Rattle.protocol.specs.declared.Phase.TheVariants.{Returning}
 use Rattle.protocol.specs.declared.Refusal.TheVariants.{NotTaken, Stale, Counted}
 use Rattle.protocol.specs.declared.Sends.TheVariants as sends
 use Rattle.protocol.specs.declared.Stage.TheVariants.{Storing}
 use Rattle.protocol.specs.declared.Step.{Step}
-use Rattle.protocol.specs.declared.Verdict.{Verdict}
-use Rattle.protocol.specs.declared.Verdict.TheVariants as verdict
 
 module _ (node : Node) (N : NodeFits node) (sender : ℕ) (i : Incarnation) (I : CounterFits i.0) where
   counted_fits : NodeFits (with_counted node sender i)
@@ -47,15 +46,14 @@ module _ (node : Node) (N : NodeFits node) (sender : ℕ) (i : Incarnation) (I :
         incarnation_fits = N.incarnation_fits;
         attempt_fits = N.attempt_fits;
         items_fit = N.items_fit;
-        counted_fit = set_any (λ (p : Peer). CounterFits p.incarnation.0) node.counted sender
-            (record { present = true; incarnation = i }) no_peer I N.counted_fit;
+        counted_fit = set_any PeerFits node.counted sender (Some i) None I N.counted_fit;
         asked_fit = N.asked_fit;
       }
 
   -- the row takes the item, and Stored goes back
   taken_fits : (a : Attempt) (k : Item) → CounterFits a.0 → ItemFits k
       → StepFits node (ok (with_row node sender (stored_row k i a)) (sends.Back (message.Stored i a k)))
-  unfolding ok with_row row_of message_to other_of attempt_of item_of
+  unfolding ok with_row row_of other_of attempt_of item_of
   taken_fits a k h h' =
       record {
         same_number = refl;
@@ -67,17 +65,17 @@ module _ (node : Node) (N : NodeFits node) (sender : ℕ) (i : Incarnation) (I :
           counted_fit = N.counted_fit;
           asked_fit = N.asked_fit;
         };
-        sends_fit = λ _. record { other_fits = I; attempt_fits = h; item_fits = h' };
+        sends_fit = record { other_fits = I; attempt_fits = h; item_fits = h' };
       }
 
-  reply_fits : (v : Verdict) (a : Attempt) (k : Item) → CounterFits a.0 → ItemFits k → StepFits node (reply_store v node sender i a k)
+  reply_fits : (v : Result (Unit {0}) Refusal) (a : Attempt) (k : Item) → CounterFits a.0 → ItemFits k → StepFits node (reply_store v node sender i a k)
   unfolding reply_store
-  reply_fits (verdict.Refuse why) a k h h' = by_refused node N why
-  reply_fits verdict.Take a k h h' = taken_fits a k h h'
+  reply_fits (Err why) a k h h' = by_refused node N why
+  reply_fits (Ok takes) a k h h' = taken_fits a k h h'
 
 -- the peers counted are asked
 asked_fits : (node : Node) → NodeFits node → (phase : Phase) → StepFits node (send_confirm (confirming_begun node phase))
-unfolding send_confirm confirming_begun ok message_to other_of attempt_of item_of row_of own_item
+unfolding send_confirm confirming_begun ok row_of own_item
 asked_fits node N phase =
     record {
       same_number = refl;
@@ -89,7 +87,7 @@ asked_fits node N phase =
         counted_fit = none_fits;
         asked_fit = N.counted_fit;
       };
-      sends_fit = λ k. record { other_fits = N.counted_fit k; attempt_fits = N.attempt_fits; item_fits = N.items_fit node.number };
+      sends_fit = (N.attempt_fits, N.items_fit node.number);
     }
 
 -- what a step of `middle` keeps, a step of a node with its number and group keeps
@@ -106,19 +104,19 @@ module _ (node : Node) (N : NodeFits node) where
       (λ _. by_quiet node node refl refl N) (λ _. asked_fits node N _)
 
   confirmed_fits : StepFits node (confirmed_counted node)
-  unfolding confirmed_counted store_success write_ended message_to
+  unfolding confirmed_counted store_success write_ended
   confirmed_fits =
       by_cond (StepFits node) (below_half node) _ _
       (λ _. by_quiet node node refl refl N)
-      (λ _. record { same_number = refl; same_size = refl; node_fits = ended_fits node N; sends_fit = λ _. fetch_fits node N })
+      (λ _. record { same_number = refl; same_size = refl; node_fits = ended_fits node N; sends_fit = tt })
 
   table_fits : StepFits node (table_counted node)
-  unfolding table_counted node_recover stopped written_back crashed blank_node message_to
+  unfolding table_counted node_recover stopped written_back crashed blank_node
   table_fits =
       by_cond (StepFits node) (at_most_half node) _ _
       (λ _. by_quiet node node refl refl N)
       (λ _. by_cond (StepFits node) (has_conflict node) _ _
-      (λ _. record { same_number = refl; same_size = refl; node_fits = crashed_fits node N; sends_fit = λ _. fetch_fits node N })
+      (λ _. record { same_number = refl; same_size = refl; node_fits = crashed_fits node N; sends_fit = tt })
       (λ _. store_sent node N (Returning Storing) (record { 0 = 1 }) (own_item node) (omega arith) (own_fits node N)))
 
   rows_fits : (rows : List Row) → ((j : ℕ) → ItemFits (get_or rows j zero_row).item) → NodeFits (with_rows node rows)

@@ -3,7 +3,7 @@
 use Prim.Native.Nat.{ℕ, zero, suc}
 use native.Mathlib.Omega.{arith}
 use mathlib.Core.Path.{◌≡◌, refl, sym, ap, subst, ◌∙◌}
-use mathlib.Core.Bool.{Bool, true, false, ◌&&◌, false≢true}
+use mathlib.Core.Bool.{true, false, ◌&&◌, false≢true}
 use mathlib.Core.List.{List, [], ◌∷◌, Memᴰ}
 use lib.Dec.{ltb, eqb}
 use lib.ListN.{length}
@@ -18,7 +18,8 @@ use Rattle.store.specs.Change.{count_outgoing}
 use Rattle.protocol.specs.Answer.{ok, refused, refusal_number, is_refused}
 use Rattle.protocol.specs.Deliver.{on_message, deliver_step}
 use Rattle.operations.specs.Operation.{Result, set_up, perform, refuse, sent_by, carried_out, at_node, dropped, delivered, on_sound, on_records}
-use Rattle.protocol.specs.Outgoing.{goes_to, outgoing_to, outgoing_from, outgoing}
+use Rattle.protocol.specs.Outgoing.{message_to, outgoing_to, outgoing_from, outgoing}
+use Rattle.message.proofs.Counted.{count_none}
 use Rattle.protocol.specs.Phase.{is_down}
 use Rattle.operations.specs.Refusal.{set_up_refusals, refusals_of, IfRefused, RefusalsChangeNothing}
 use Rattle.protocol.specs.Table.{node_at, sound_table}
@@ -70,14 +71,15 @@ module _ (numbers : List ℕ) (table : List Node) (store : List ℕ) where
 
 -- ---- Crash sends nothing, so that it needs no free record
 
-and_false : (t : Bool) → (t && false) ≡ false
-and_false true = refl
-and_false false = refl
+none_to : (node : Node) (back k : ℕ) → outgoing_to node sends.Nothing back k ≡ None
+unfolding outgoing_to message_to
+none_to node back k = by_cond (λ (o : Option Envelope). o ≡ None) (ltb k node.n) _ _ (λ _. refl) (λ _. refl)
 
 none_sent : (node : Node) (back k count : ℕ) → count_outgoing (outgoing_from node sends.Nothing back k count) ≡ 0
-unfolding outgoing_from count_outgoing outgoing_to goes_to
+unfolding outgoing_from count_outgoing
 none_sent node back k zero = refl
-none_sent node back k (suc count) = rw (and_false (ltb k node.n)) (none_sent node back (suc k) count)
+none_sent node back k (suc count) =
+    rw (none_to node back k) (count_none (outgoing_from node sends.Nothing back (suc k) count) ∙ none_sent node back (suc k) count)
 
 crash_sends : (node : Node) → (crash_step node).sends ≡ sends.Nothing
 unfolding crash_step refused ok

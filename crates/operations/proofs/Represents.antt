@@ -14,7 +14,6 @@ use Rattle.item.specs.Maxima.{max_nodes}
 use Rattle.item.specs.Tests.{by_cond}
 use Rattle.item.specs.declared.Item.{Item}
 use Rattle.message.specs.declared.Envelope.{Envelope}
-use Rattle.message.specs.declared.Outgoing.{Outgoing}
 use Rattle.record.specs.Layout.{record_size, rows_of}
 use Rattle.message.specs.Rows.{held_rows}
 use Rattle.record.specs.Record.{read_record, record_bytes}
@@ -97,7 +96,7 @@ module _ (n : ℕ) (table : List Node) (store : List ℕ) (sent : List Packet) (
     at_place : (k < n) × Placed n k step.node
     at_place = let D = deciding_place n (network_of table sent) G d in (D.0, D.1.0)
 
-    out : List Outgoing
+    out : List (Option Envelope)
     out = outgoing step.node step.sends back
 
     rows : List Item
@@ -113,13 +112,13 @@ module _ (n : ℕ) (table : List Node) (store : List ℕ) (sent : List Packet) (
         subst (λ (c : Envelope). WasSent sent' c (rows_of r)) (sym same_envelope) (rw (O.reads.rows ∙ back_read.1) carried)
       where
         c : Envelope
-        c = O.outgoing.envelope
+        c = O.envelope
 
         c_fits : Fits c
         c_fits =
-            outgoing_fits step.node step.sends back F.node_fits F.sends_fit
+            outgoing_fits step.node back F.node_fits
             (omega (arith, at_place.0, at_place.1.has_number)) (omega (arith, at_place.1.has_size))
-            O.outgoing O.among O.present
+            step.sends F.sends_fit O.envelope O.among
 
         back_read : (read_record n (record_bytes n 0 c rows) ≡ Some c) × (rows_of (record_bytes n 0 c rows) ≡ held_rows c.message n rows)
         back_read =
@@ -135,7 +134,7 @@ module _ (n : ℕ) (table : List Node) (store : List ℕ) (sent : List Packet) (
               fits = message_fits_of c c_fits;
               items_fit = held_fit c.message n rows (node_items_fit step.node F.node_fits);
               was_sent = subst (λ (i : ℕ). Memᴰ (record { envelope = c; rows = held_rows c.message i rows }) sent') at_place.1.has_size
-                  (Memᴰ.append_left sent (has_packet step.node out O.outgoing O.among O.present));
+                  (Memᴰ.append_left sent (has_packet step.node out O.envelope O.among));
             }
 
     sent_after_puts : AllSent n sent' (put_each (records_of store) out rows)

@@ -1,57 +1,46 @@
 -- Every message that a decision sends, with the rows beside it, fits its record, if the node's numbers fit.
 use Prim.Native.Nat.{ℕ, zero, suc, ◌<◌, ◌≤◌}
 use native.Mathlib.Omega.{arith}
-use mathlib.Core.Path.{◌≡◌, sym, subst}
-use mathlib.Core.Logic.{◌⊎◌, inl, inr}
-use mathlib.Core.Bool.{true}
-use mathlib.Core.List.Memᴰ
+use mathlib.Core.Path.{◌≡◌, subst}
 use mathlib.Core.List.{List, [], ◌∷◌, Memᴰ}
-use lib.Dec.{ltb}
 use lib.ListN.{get_or, take, get_or-map}
-use borrow.Author.Tests.{ltb-true}
 use Rattle.item.specs.Item.{zero_item}
 use Rattle.item.specs.Maxima.{max_nodes}
 use Rattle.item.specs.Row.{zero_row}
-use Rattle.item.specs.Tests.{and_left}
 use Rattle.item.specs.declared.Item.{Item}
 use Rattle.item.specs.declared.Row.{Row}
 use Rattle.message.specs.declared.Envelope.{Envelope}
 use Rattle.message.specs.declared.Message.{Message}
-use Rattle.message.specs.declared.Outgoing.{Outgoing}
-use Rattle.record.specs.Kind.{fields_of, rows_held}
+use Rattle.message.specs.declared.Message.TheVariants as message
+use Rattle.std.specs.Prelude.{Some}
+use Rattle.record.specs.Kind.{fields_of, rows_held, other_of, attempt_of, item_of}
 use Rattle.record.specs.Layout.{padded}
 use Rattle.message.specs.Rows.{held_rows}
 use Rattle.record.specs.RoundTrip.{ItemFits, RowsFit, FieldsFit, Fits}
 use Rattle.protocol.specs.Node.{row_of, row_items}
-use Rattle.protocol.specs.Outgoing.{goes_to, message_to, outgoing_to, outgoing_from, outgoing}
+use Rattle.protocol.specs.Outgoing.{envelope_to, outgoing}
+use Rattle.protocol.proofs.Sending.{each_nothing, each_other, each_back, each_asked}
 use Rattle.protocol.specs.declared.Node.{Node}
 use Rattle.protocol.specs.declared.Sends.{Sends}
-use Rattle.operations.specs.Fits.{CounterFits, NodeFits}
-use Rattle.operations.proofs.Fitting.{MessageFits, zero_fits}
+use Rattle.protocol.specs.declared.Sends.TheVariants as sends
+use Rattle.operations.specs.Fits.{CounterFits, PeerFits, NodeFits}
+use Rattle.operations.proofs.Fitting.{MessageFits, SendsFit, zero_fits}
 
 -- ---- every envelope that is sent fits its record
 
-module _ (node : Node) (s : Sends) (back : ℕ) (N : NodeFits node) (fit : (k : ℕ) → MessageFits (message_to s node k))
-    (number_below : node.number < 16) (size_fits : node.n ≤ 16) where
-  to_fits : (k : ℕ) → (outgoing_to node s back k).present ≡ true → Fits (outgoing_to node s back k).envelope
-  unfolding outgoing_to Fits FieldsFit fields_of
-  to_fits k e =
-      let b : k < node.n = ltb-true k node.n (and_left (ltb k node.n) (goes_to s node back k) e) in
-      (number_below, omega arith, N.incarnation_fits, (fit k).other_fits, (fit k).attempt_fits, (fit k).item_fits)
+module _ (node : Node) (back : ℕ) (N : NodeFits node) (number_below : node.number < 16) (size_fits : node.n ≤ 16) where
+  to_fits : (k : ℕ) (m : Message) → k < node.n → MessageFits m → Fits (envelope_to node k m)
+  unfolding Fits FieldsFit fields_of
+  to_fits k m b M = (number_below, omega arith, N.incarnation_fits, M.other_fits, M.attempt_fits, M.item_fits)
 
-  from_fits : (k count : ℕ) (o : Outgoing) → Memᴰ o (outgoing_from node s back k count) → o.present ≡ true → Fits o.envelope
-  unfolding outgoing_from
-  from_fits k zero o m e = absurd (Memᴰ.not-nil m)
-  from_fits k (suc count) o m e = go (from_fits (suc k) count o) (Memᴰ.cases_cons m)
-    where
-      go : (Memᴰ o (outgoing_from node s back (suc k) count) → o.present ≡ true → Fits o.envelope)
-          → (o ≡ outgoing_to node s back k) ⊎ Memᴰ o (outgoing_from node s back (suc k) count) → Fits o.envelope
-      go r (inl z) = subst (λ (p : Outgoing). p.present ≡ true → Fits p.envelope) (sym z) (to_fits k) e
-      go r (inr j) = r j e
-
-  pub outgoing_fits : (o : Outgoing) → Memᴰ o (outgoing node s back) → o.present ≡ true → Fits o.envelope
-  unfolding outgoing
-  outgoing_fits = from_fits 0 max_nodes
+  pub outgoing_fits : (s : Sends) → SendsFit s → (e : Envelope) → Memᴰ (Some e) (outgoing node s back) → Fits e
+  unfolding other_of attempt_of item_of
+  outgoing_fits sends.Nothing M = each_nothing Fits node back
+  outgoing_fits (sends.Back m) M = each_back Fits node back m (λ b. to_fits back m b M)
+  outgoing_fits (sends.Others m) M = each_other Fits node back m (λ k b d. to_fits k m b M)
+  outgoing_fits (sends.Asked a item) M = each_asked Fits node back a item
+      (λ k b o e. to_fits k (message.Confirm o a item) b
+      (record { other_fits = subst PeerFits e (N.asked_fit k); attempt_fits = M.0; item_fits = M.1 }))
 
 -- what fitting fields say of the message
 pub message_fits_of : (e : Envelope) → Fits e → MessageFits e.message × CounterFits e.incarnation.0

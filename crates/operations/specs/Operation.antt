@@ -3,7 +3,6 @@
 -- decision, and 7 last.
 use Rattle.std.specs.Prelude.{ℕ, cond, ◌&&◌, List, ltb, eqb, length, set, None, Option, Some}
 use Rattle.item.specs.Maxima.{valid_size}
-use Rattle.message.specs.declared.Outgoing.{Outgoing}
 use Rattle.record.specs.Layout.{rows_of}
 use Rattle.store.specs.Records.{record_count, right_length, records_of, joined, record_in}
 use Rattle.store.specs.Head.{group_size}
@@ -47,7 +46,7 @@ set_up n table store =
 
 -- the decision of node k is carried out: what it sends goes into the store, and the node into the table. "7: too few free
 -- records for what it would send."
-unfoldable pub sent_by : List Node → List ℕ → List (List ℕ) → ℕ → Step → List Outgoing → Result
+unfoldable pub sent_by : List Node → List ℕ → List (List ℕ) → ℕ → Step → List (Option Envelope) → Result
 sent_by table store rs k step out =
     cond (ltb (free_count rs) (count_outgoing out)) (refuse NoRoom table store)
     (record {

@@ -8,22 +8,12 @@ use protocol::Phase;
 pub fn is_down(phase: Phase) -> bool
     ensures { result ≡ is_down phase }
 {
-    match phase {
-        Phase::Down => true,
-        Phase::Fetching => false,
-        Phase::Returning(_) => false,
-        Phase::Up(_) => false,
-    }
+    matches!(phase, Phase::Down)
 }
 
 // Whether the node collects tables.
 pub fn is_fetching(phase: Phase) -> bool
     ensures { result ≡ is_fetching phase }
 {
-    match phase {
-        Phase::Down => false,
-        Phase::Fetching => true,
-        Phase::Returning(_) => false,
-        Phase::Up(_) => false,
-    }
+    matches!(phase, Phase::Fetching)
 }

@@ -1,51 +1,27 @@
 // The stage of the write that a node that is Returning or Up has under way: the tests on it, and its change.
 ghost use Rattle.std.specs.Prelude.{◌≡◌};
-ghost use Rattle.protocol.specs.Phase.{is_storing, is_confirming, at_stage, is_storing_stage, is_confirming_stage};
+ghost use Rattle.protocol.specs.Phase.{is_storing, is_confirming, at_stage};
 
 use protocol::{Phase, Stage};
-
-fn is_storing_stage(stage: Stage) -> bool
-    ensures { result ≡ is_storing_stage stage }
-{
-    match stage {
-        Stage::Idle => false,
-        Stage::Storing => true,
-        Stage::Confirming => false,
-    }
-}
-
-fn is_confirming_stage(stage: Stage) -> bool
-    ensures { result ≡ is_confirming_stage stage }
-{
-    match stage {
-        Stage::Idle => false,
-        Stage::Storing => false,
-        Stage::Confirming => true,
-    }
-}
 
 // Whether the write is Storing, when Returning or Up.
 pub fn is_storing(phase: Phase) -> bool
     ensures { result ≡ is_storing phase }
 {
-    match phase {
-        Phase::Down => false,
-        Phase::Fetching => false,
-        Phase::Returning(stage) => is_storing_stage(stage),
-        Phase::Up(stage) => is_storing_stage(stage),
-    }
+    matches!(
+        phase,
+        Phase::Returning(Stage::Storing) | Phase::Up(Stage::Storing)
+    )
 }
 
 // Whether the write is Confirming, when Returning or Up.
 pub fn is_confirming(phase: Phase) -> bool
     ensures { result ≡ is_confirming phase }
 {
-    match phase {
-        Phase::Down => false,
-        Phase::Fetching => false,
-        Phase::Returning(stage) => is_confirming_stage(stage),
-        Phase::Up(stage) => is_confirming_stage(stage),
-    }
+    matches!(
+        phase,
+        Phase::Returning(Stage::Confirming) | Phase::Up(Stage::Confirming)
+    )
 }
 
 // The phase with another stage of the write. Down and Fetching have none, and stay.

@@ -8,22 +8,12 @@ use protocol::Phase;
 pub fn is_up(phase: Phase) -> bool
     ensures { result ≡ is_up phase }
 {
-    match phase {
-        Phase::Down => false,
-        Phase::Fetching => false,
-        Phase::Returning(_) => false,
-        Phase::Up(_) => true,
-    }
+    matches!(phase, Phase::Up(_))
 }
 
 // Whether the node writes back its own item.
 pub fn is_returning(phase: Phase) -> bool
     ensures { result ≡ is_returning phase }
 {
-    match phase {
-        Phase::Down => false,
-        Phase::Fetching => false,
-        Phase::Returning(_) => true,
-        Phase::Up(_) => false,
-    }
+    matches!(phase, Phase::Returning(_))
 }

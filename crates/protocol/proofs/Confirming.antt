@@ -4,7 +4,7 @@ use Prim.Native.Nat.{ℕ, ◌≤◌, ◌<◌}
 use native.Mathlib.Omega.{arith}
 use mathlib.Core.Path.{◌≡◌, refl, sym, ap, ◌∙◌, subst}
 use mathlib.Core.Logic.{◌≢◌}
-use mathlib.Core.Bool.{true, ◌&&◌}
+use mathlib.Core.Bool.{true, ◌&&◌, false≢true}
 use mathlib.Core.List.{List}
 use borrow.Author.Tests.{ltb-false, eq-eqb, ne_eqb}
 use Rattle.item.proofs.Laws.{same_incarnation_lem}
@@ -25,7 +25,10 @@ use Rattle.protocol.specs.declared.Answer.TheVariants as answer
 use Rattle.protocol.specs.declared.Node.{Node}
 use Rattle.protocol.specs.declared.Phase.{Phase}
 use Rattle.protocol.proofs.Cases.{IfTaken, refusal_not_taken, confirm_cases, confirmed_cases}
-use Rattle.protocol.proofs.Counts.{present_set}
+use Rattle.std.specs.Prelude.{Option, Some, None, is_some}
+use Rattle.std.specs.Option.{option_eq}
+use Rattle.item.specs.Counter.{same_incarnation}
+use Rattle.protocol.proofs.Counts.{under_of, present_set}
 use Rattle.protocol.proofs.InView.{InView, half_is}
 use Rattle.protocol.proofs.Phases.{confirming_seen, confirming_live, returning_is, returning_not}
 use Rattle.protocol.proofs.Place.{by_place, peer_there, numbered, at_x, at_other, own_row, counted_of_group}
@@ -62,6 +65,11 @@ end_finishes x v p item e same = by_cond (λ a. Finishes v (note_of x x a)) (is_
       when_returning = λ u. absurd (returning_not p r (sym e ∙ u));
     })
 
+-- a peer that was asked under this incarnation
+pub asked_peer : (p : Option Incarnation) (i : Incarnation) → option_eq same_incarnation p (Some i) ≡ true → p ≡ Some i
+asked_peer None i e = absurd (false≢true e)
+asked_peer (Some o) i e = ap Some (same_incarnation_lem o i e)
+
 -- Confirmed
 module _ {f n x : ℕ} {g : View} {node : Node} (s : ℕ) (i : Incarnation) (e : is_confirming node.phase ≡ true) (v : InView f n x x g node) where
   counts_confirmed_lem : (other : Incarnation) (a : Attempt) (item : Item) → (own_write node other a item && asked_under node s i) ≡ true
@@ -75,10 +83,12 @@ module _ {f n x : ℕ} {g : View} {node : Node} (s : ℕ) (i : Incarnation) (e :
     was_sent = sent;
     in_confirming = rw v.view (confirming_seen node.phase e);
     present = own_present x (g.node x) node other a item v.view (numbered v) (and_left _ (asked_under node s i) own);
-    was_asked = rw v.view (search (and_left, and_right));
-    asked_under = rw v.view (sym (ap (λ (j : Incarnation). j.0)
-        (same_incarnation_lem (peer_of node.asked s).incarnation i (search (and_left, and_right)))));
+    was_asked = rw v.view (ap (λ (p : Option Incarnation). is_some p) asked_is);
+    asked_under = rw v.view (sym (ap under_of asked_is));
   }
+    where
+      asked_is : peer_of node.asked s ≡ Some i
+      asked_is = asked_peer (peer_of node.asked s) i (and_right (own_write node other a item) _ own)
 
   confirmed_own : s < n → CountsConfirmed x g s → Change f x g quiet x (seen x (with_counted node s i))
   unfolding with_counted row_of

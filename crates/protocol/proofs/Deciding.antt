@@ -29,7 +29,7 @@ use Rattle.protocol.specs.declared.Refusal.{Refusal}
 use Rattle.protocol.specs.declared.Refusal.TheVariants.{WrongStage, AtLargest, NotTaken, Stale, Counted, LowerRank, OtherTag}
 use Rattle.protocol.specs.declared.Sends.{Sends}
 use Rattle.protocol.specs.declared.Step.{Step}
-use Rattle.protocol.specs.declared.Verdict.{Verdict}
+use Rattle.std.specs.Prelude.{Result}
 
 -- ---- numbers of a list, found by a test
 
@@ -120,7 +120,7 @@ module _ (node : Node) (sender : ℕ) (incarnation : Incarnation) where
       (λ _. by_ok of_message _ _))
       (λ _. by_refusal of_message node OtherTag (found _ _ refl))))
     where
-      Replies : Verdict → Type 0
+      Replies : Result (Unit {0}) Refusal → Type 0
       Replies v = RefusesBy of_message (reply_store v node sender incarnation attempt item)
 
   -- a message that the node's stage takes and that is of its present write or return, from a sender not counted yet

@@ -5,19 +5,22 @@ use native.Mathlib.Omega.{arith}
 use native.Mathlib.Nat.{zero-add}
 use mathlib.Core.Path.{◌≡◌, refl, sym, ap, subst, ◌∙◌}
 use mathlib.Core.Logic.{◌≢◌, ◌⊎◌, inl, inr}
-use mathlib.Core.Bool.{Bool, true, false, ◌&&◌, false≢true}
+use mathlib.Core.Bool.{Bool, true, false}
 use mathlib.Core.List.Memᴰ
 use mathlib.Core.List.{◌++◌, Memᴰ}
-use lib.Dec.{eqb, ltb}
+use lib.Dec.{eqb}
 use lib.ListN.{length, get_or, set, length-set}
 use lib.Seq.{get_or-set_same, get_or-set_other}
-use borrow.Author.Tests.{ltb-true, eqb-true, eqb-false, not-true}
+use borrow.Author.Tests.{eqb-true, eqb-false}
 use Rattle.item.specs.Maxima.{max_nodes}
-use Rattle.item.specs.Tests.{and_left, and_right}
-use Rattle.message.specs.declared.Outgoing.{Outgoing}
+use Rattle.item.specs.Tests.{by_cond}
+use Rattle.message.specs.declared.Message.{Message}
+use Rattle.message.specs.declared.Message.TheVariants as message
+use Rattle.item.specs.declared.counters.Incarnation.{Incarnation}
+use Rattle.returns.specs.View.{clash}
 use Rattle.protocol.specs.Network.{Packet, Network, packet_of, packets_of, network_after, Decides, writes, retries, crashes, starts, delivers, Next, host_refuses, node_refuses, drops, acts, fresh_network}
-use Rattle.protocol.specs.Node.{fresh_node, row_items}
-use Rattle.protocol.specs.Outgoing.{goes_to, outgoing, outgoing_to}
+use Rattle.protocol.specs.Node.{fresh_node, peer_of, row_items}
+use Rattle.protocol.specs.Outgoing.{message_to, outgoing}
 use Rattle.protocol.specs.Call.{Call}
 use Rattle.protocol.specs.Table.{no_node, node_at, fresh_nodes, fresh_table}
 use Rattle.protocol.specs.declared.Event.{Event}
@@ -28,8 +31,8 @@ use Rattle.protocol.specs.declared.Step.{Step}
 use Rattle.protocol.proofs.InView.{Placed}
 use Rattle.protocol.proofs.Packets.{each_packet, held_length}
 use Rattle.protocol.proofs.Placed.{fresh_placed, BackToOther, PlacedStep, write_placed, retry_placed, crash_placed, start_placed, deliver_placed}
-use Rattle.protocol.proofs.Sending.{outgoing_from_lem}
-use Rattle.std.specs.Prelude.{Option}
+use Rattle.protocol.proofs.Sending.{outgoing_goes}
+use Rattle.std.specs.Prelude.{Option, Some, None, is_some, option_map}
 use Rattle.message.specs.declared.Envelope.{Envelope}
 
 -- a packet from one node of a group of n to another
@@ -47,24 +50,30 @@ pub record Grouped (n : ℕ) (net : Network) : Type 0 where
 -- ---- what a node at its place sends
 
 module _ (n k back : ℕ) (node : Node) (p : Placed n k node) where
-  other_than_k : (s : Sends) → BackToOther k back s → (to : ℕ) → goes_to s node back to ≡ true → to ≢ k
-  unfolding goes_to
-  other_than_k sends.Nothing b to e = absurd (false≢true e)
-  other_than_k (sends.Back m) b to e = λ z. b (sym (eqb-true to back e) ∙ z)
-  other_than_k (sends.Others m) b to e = λ z. eqb-false to node.number (not-true (eqb to node.number) e) (z ∙ sym p.has_number)
-  other_than_k (sends.Asked a i) b to e = (p.asks_others to e).1
+  other_than_k : (s : Sends) → BackToOther k back s → (to : ℕ) (m : Message) → message_to s node back to ≡ Some m → to ≢ k
+  unfolding message_to
+  other_than_k sends.Nothing b to m = λ h. clash (cc)
+  other_than_k (sends.Back w) b to m =
+      by_cond (λ o. o ≡ Some m → to ≢ k) (eqb to back) _ _ (λ t h z. b (sym (eqb-true to back t) ∙ z)) (λ t h. clash (cc))
+  other_than_k (sends.Others w) b to m =
+      by_cond (λ o. o ≡ Some m → to ≢ k) (eqb to node.number) _ _
+      (λ t h. clash (cc)) (λ t h z. eqb-false to node.number t (z ∙ sym p.has_number))
+  other_than_k (sends.Asked a i) b to m = go (peer_of node.asked to) refl
+    where
+      go : (q : Option Incarnation) → peer_of node.asked to ≡ q → option_map (λ other. message.Confirm other a i) q ≡ Some m → to ≢ k
+      go None e h = clash (cc)
+      go (Some o) e h = (p.asks_others to (ap (λ (r : Option Incarnation). is_some r) e)).1
 
-  sent_addressed : k < n → (s : Sends) → BackToOther k back s → (o : Outgoing) → Memᴰ o (outgoing node s back) → o.present ≡ true
-      → Addressed n (packet_of node o.envelope)
-  unfolding outgoing packet_of outgoing_to
-  sent_addressed h s b o m there =
-      let (to, e) = outgoing_from_lem node s back 0 max_nodes o m in
-      let goes : (ltb to node.n && goes_to s node back to) ≡ true = sym (ap (λ (q : Outgoing). q.present) e) ∙ there in
-      subst (λ (q : Outgoing). Addressed n (packet_of node q.envelope)) (sym e)
+  sent_addressed : k < n → (s : Sends) → BackToOther k back s → (e : Envelope) → Memᴰ (Some e) (outgoing node s back)
+      → Addressed n (packet_of node e)
+  unfolding packet_of
+  sent_addressed h s b e m =
+      let g = outgoing_goes node s back e m in
+      subst (λ (d : Envelope). Addressed n (packet_of node d)) (sym g.envelope)
       (record {
         sender_below = omega (arith, p.has_number);
-        addressee_below = omega (arith, p.has_size, ltb-true to node.n (and_left (ltb to node.n) _ goes));
-        from_other = λ z. other_than_k s b to (and_right (ltb to node.n) _ goes) (sym z ∙ p.has_number);
+        addressee_below = omega (arith, p.has_size, g.below);
+        from_other = λ z. other_than_k s b g.to g.message g.sent (sym z ∙ p.has_number);
         rows_length = held_length _ node.n (row_items node);
       })
 

@@ -3,21 +3,21 @@ use Prim.Native.Nat.{ℕ, ◌<◌, ◌≤◌, min}
 use native.Mathlib.Omega.{arith}
 use mathlib.Core.Path.{◌≡◌, refl, sym, ap, subst, ◌∙◌}
 use mathlib.Core.Logic.{◌⊎◌, inl, inr}
-use mathlib.Core.Bool.{true}
+use mathlib.Core.List.Memᴰ
 use mathlib.Core.List.{List, [], ◌∷◌, ◌++◌, append_assoc, Memᴰ}
 use lib.ListN.{length, get_or, take}
 use lib.Seq.{get_or-take}
 use Rattle.item.specs.declared.counters.Incarnation.{Incarnation}
 use Rattle.item.specs.Item.{zero_item}
 use Rattle.item.specs.Maxima.{max_nodes}
-use Rattle.item.specs.Tests.{by_cond}
 use Rattle.item.specs.declared.Item.{Item}
 use Rattle.message.specs.Rows.{rows_held, held_rows}
 use Rattle.message.proofs.RowsLaws.{length_padded, get_or_padded}
 use Rattle.message.specs.declared.Message.{Message}
 use Rattle.message.specs.declared.Message.TheVariants as message
-use Rattle.message.specs.declared.Outgoing.{Outgoing}
-use Rattle.returns.specs.View.{ViewMessage, Each, each_nil, each_append}
+use Rattle.message.specs.declared.Envelope.{Envelope}
+use Rattle.std.specs.Prelude.{Option, Some, None}
+use Rattle.returns.specs.View.{ViewMessage, Each, each_nil, each_append, clash}
 use Rattle.protocol.specs.Network.{Packet, packet_of, packets_of}
 use Rattle.protocol.specs.Node.{row_items}
 use Rattle.protocol.specs.declared.Node.{Node}
@@ -27,32 +27,33 @@ use Rattle.protocol.proofs.Seen.{seen_as, seen_message}
 
 module _ (node : Node) where
   -- each is the packet of something outgoing
-  pub each_packet : (P : Packet → Type 0) (os : List Outgoing)
-      → ((o : Outgoing) → Memᴰ o os → o.present ≡ true → P (packet_of node o.envelope)) → (l : Packet) → Memᴰ l (packets_of node os) → P l
+  pub each_packet : (P : Packet → Type 0) (os : List (Option Envelope))
+      → ((e : Envelope) → Memᴰ (Some e) os → P (packet_of node e)) → (l : Packet) → Memᴰ l (packets_of node os) → P l
   unfolding packets_of
-  each_packet P [] h l = λ m. absurd (mathlib.Core.List.Memᴰ.not-nil m)
-  each_packet P (o ∷ os) h l =
-      let rest : Memᴰ l (packets_of node os) → P l = each_packet P os (λ p m e. h p (mathlib.Core.List.Memᴰ.tail m) e) l in
-      by_cond (λ (ls : List Packet). Memᴰ l ls → P l) o.present _ _ (λ e m. go rest (h o (mathlib.Core.List.Memᴰ.head refl) e) (mathlib.Core.List.Memᴰ.cases_cons m)) (λ e. rest)
+  each_packet P [] h l m = absurd (Memᴰ.not-nil m)
+  each_packet P (None ∷ os) h l m = each_packet P os (λ e k. h e (Memᴰ.tail k)) l m
+  each_packet P (Some e ∷ os) h l m = go (each_packet P os (λ d k. h d (Memᴰ.tail k)) l) (Memᴰ.cases_cons m)
     where
-      go : (Memᴰ l (packets_of node os) → P l) → P (packet_of node o.envelope)
-          → (l ≡ packet_of node o.envelope) ⊎ Memᴰ l (packets_of node os) → P l
-      go r p (inl z) = subst P (sym z) p
-      go r p (inr k) = r k
+      go : (Memᴰ l (packets_of node os) → P l) → (l ≡ packet_of node e) ⊎ Memᴰ l (packets_of node os) → P l
+      go r (inl z) = subst P (sym z) (h e (Memᴰ.head refl))
+      go r (inr k) = r k
 
   -- and each thing outgoing has its packet
-  pub has_packet : (os : List Outgoing) (o : Outgoing) → Memᴰ o os → o.present ≡ true → Memᴰ (packet_of node o.envelope) (packets_of node os)
+  pub has_packet : (os : List (Option Envelope)) (e : Envelope) → Memᴰ (Some e) os → Memᴰ (packet_of node e) (packets_of node os)
   unfolding packets_of
-  has_packet [] o m e = absurd (mathlib.Core.List.Memᴰ.not-nil m)
-  has_packet (p ∷ os) o m e = go (mathlib.Core.List.Memᴰ.cases_cons m) (λ k. has_packet os o k e)
+  has_packet [] e m = absurd (Memᴰ.not-nil m)
+  has_packet (None ∷ os) e m = go (has_packet os e) (Memᴰ.cases_cons m)
     where
-      go : (o ≡ p) ⊎ Memᴰ o os → (Memᴰ o os → Memᴰ (packet_of node o.envelope) (packets_of node os))
-          → Memᴰ (packet_of node o.envelope) (packets_of node (p ∷ os))
-      go (inl z) r =
-          let there : p.present ≡ true = subst (λ (q : Outgoing). q.present ≡ true) z e in
-          rw there (mathlib.Core.List.Memᴰ.head (ap (λ (q : Outgoing). packet_of node q.envelope) z))
-      go (inr k) r =
-          by_cond (λ (ls : List Packet). Memᴰ (packet_of node o.envelope) ls) p.present _ _ (λ _. mathlib.Core.List.Memᴰ.tail (r k)) (λ _. r k)
+      go : (Memᴰ (Some e) os → Memᴰ (packet_of node e) (packets_of node os)) → (Some e ≡ None) ⊎ Memᴰ (Some e) os
+          → Memᴰ (packet_of node e) (packets_of node os)
+      go r (inl z) = clash (cc)
+      go r (inr k) = r k
+  has_packet (Some d ∷ os) e m = go (has_packet os e) (Memᴰ.cases_cons m)
+    where
+      go : (Memᴰ (Some e) os → Memᴰ (packet_of node e) (packets_of node os)) → (Some e ≡ Some d) ⊎ Memᴰ (Some e) os
+          → Memᴰ (packet_of node e) (packet_of node d ∷ packets_of node os)
+      go r (inl z) = Memᴰ.head (cc)
+      go r (inr k) = Memᴰ.tail (r k)
 
 -- ---- the rows beside a message
 
@@ -93,27 +94,26 @@ append_seen x (l ∷ a) b =
 -- a packet that was sent is seen
 pub packet_seen : (x : ℕ) (ls : List Packet) (l : Packet) → Memᴰ l ls → Each (λ m. Memᴰ m (seen_packets x ls)) (seen_packet x l)
 unfolding seen_packets
-packet_seen x [] l m = absurd (mathlib.Core.List.Memᴰ.not-nil m)
-packet_seen x (a ∷ ls) l m = go (packet_seen x ls l) (mathlib.Core.List.Memᴰ.cases_cons m)
+packet_seen x [] l m = absurd (Memᴰ.not-nil m)
+packet_seen x (a ∷ ls) l m = go (packet_seen x ls l) (Memᴰ.cases_cons m)
   where
     go : (Memᴰ l ls → Each (λ v. Memᴰ v (seen_packets x ls)) (seen_packet x l))
         → (l ≡ a) ⊎ Memᴰ l ls → Each (λ v. Memᴰ v (seen_packets x (a ∷ ls))) (seen_packet x l)
-    go r (inl z) v k = mathlib.Core.List.Memᴰ.append_left (seen_packets x ls) (subst (λ (b : Packet). Memᴰ v (seen_packet x b)) z k)
-    go r (inr j) v k = mathlib.Core.List.Memᴰ.append_right (seen_packet x a) (r j v k)
+    go r (inl z) v k = Memᴰ.append_left (seen_packets x ls) (subst (λ (b : Packet). Memᴰ v (seen_packet x b)) z k)
+    go r (inr j) v k = Memᴰ.append_right (seen_packet x a) (r j v k)
 
 each_seen : (x : ℕ) (P : ViewMessage → Type 0) (ls : List Packet) → ((l : Packet) → Memᴰ l ls → Each P (seen_packet x l)) → Each P (seen_packets x ls)
 unfolding seen_packets
 each_seen x P [] h = each_nil P
 each_seen x P (l ∷ ls) h =
-    each_append P (seen_packet x l) (seen_packets x ls) (h l (mathlib.Core.List.Memᴰ.head refl)) (each_seen x P ls (λ k m. h k (mathlib.Core.List.Memᴰ.tail m)))
+    each_append P (seen_packet x l) (seen_packets x ls) (h l (Memᴰ.head refl)) (each_seen x P ls (λ k m. h k (Memᴰ.tail m)))
 
 -- what x sees of a decision's packets is what it sees of the messages with the sender's rows
-pub each_sent : (x : ℕ) (node : Node) → x < node.n → node.n ≤ max_nodes → (P : ViewMessage → Type 0) (os : List Outgoing)
-    → ((o : Outgoing) → Memᴰ o os → o.present ≡ true → Each P (seen_message x o.envelope (row_items node)))
+pub each_sent : (x : ℕ) (node : Node) → x < node.n → node.n ≤ max_nodes → (P : ViewMessage → Type 0) (os : List (Option Envelope))
+    → ((e : Envelope) → Memᴰ (Some e) os → Each P (seen_message x e (row_items node)))
     → Each P (seen_packets x (packets_of node os))
 unfolding packet_of
 each_sent x node below fits P os h =
     each_seen x P (packets_of node os)
     (each_packet node (λ (l : Packet). Each P (seen_packet x l)) os
-    (λ o m e. rw (seen_held node.n x below fits (row_items node) o.envelope.message o.envelope.sender o.envelope.addressee o.envelope.incarnation)
-    (h o m e)))
+    (λ e m. rw (seen_held node.n x below fits (row_items node) e.message e.sender e.addressee e.incarnation) (h e m)))

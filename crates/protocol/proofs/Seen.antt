@@ -1,8 +1,7 @@
 -- The group as one fixed node x sees it (crate `returns`): of each node and message the part that bears on row x. The view
 -- of a node is a projection of its fields.
 use Prim.Native.Nat.{ℕ}
-use mathlib.Core.Path.{◌≡◌}
-use mathlib.Core.Bool.{true, cond}
+use mathlib.Core.Bool.{cond}
 use mathlib.Core.List.{List, [], ◌∷◌, Memᴰ}
 use lib.Dec.{eqb}
 use lib.ListN.{get_or}
@@ -12,7 +11,7 @@ use Rattle.item.specs.declared.counters.Incarnation.{Incarnation}
 use Rattle.message.specs.declared.Envelope.{Envelope}
 use Rattle.message.specs.declared.Message.{Message}
 use Rattle.message.specs.declared.Message.TheVariants as message
-use Rattle.message.specs.declared.Outgoing.{Outgoing}
+use Rattle.std.specs.Prelude.{Some}
 use Rattle.returns.specs.View.{
   ViewPhase,
   down,
@@ -36,7 +35,8 @@ use Rattle.returns.specs.View.{
 }
 use Rattle.returns.specs.History.{Note, quiet, settles, returns}
 use Rattle.returns.specs.Change.{Change, MaySend}
-use Rattle.protocol.specs.Node.{row_of, peer_of, row_items}
+use Rattle.protocol.specs.Node.{row_of, row_items}
+use Rattle.protocol.proofs.Counts.{present, under}
 use Rattle.protocol.specs.Outgoing.{outgoing}
 use Rattle.protocol.specs.declared.Answer.{Answer}
 use Rattle.protocol.specs.declared.Answer.TheVariants as answer
@@ -74,10 +74,10 @@ seen x node =
       attempt = node.attempt.0;
       item = (row_of node x).item;
       marked = (row_of node x).marked;
-      counted = λ q. (peer_of node.counted q).present;
-      counted_under = λ q. (peer_of node.counted q).incarnation.0;
-      asked = λ q. (peer_of node.asked q).present;
-      asked_under = λ q. (peer_of node.asked q).incarnation.0;
+      counted = present node.counted;
+      counted_under = under node.counted;
+      asked = present node.asked;
+      asked_under = under node.asked;
     }
 
 -- a message that only concerns x if node p is x
@@ -108,5 +108,5 @@ note_of x k (answer.Refused why) = quiet
 pub record Tied (f x : ℕ) (g : View) (n : Note) (k back : ℕ) (step : Step) : Type 0 where
   pub changes : Change f x g n k (seen x step.node)
   pub sending :
-      (o : Outgoing) → Memᴰ o (outgoing step.node step.sends back) → o.present ≡ true →
-      Each (MaySend x g k (seen x step.node)) (seen_message x o.envelope (row_items step.node))
+      (e : Envelope) → Memᴰ (Some e) (outgoing step.node step.sends back) →
+      Each (MaySend x g k (seen x step.node)) (seen_message x e (row_items step.node))

@@ -7,7 +7,6 @@ use mathlib.Core.List.{List}
 use lib.ListN.{set}
 use lib.Seq.{get_or-set_same, get_or-set_other}
 use Rattle.item.specs.Maxima.{max_nodes}
-use Rattle.message.specs.declared.Outgoing.{Outgoing}
 use Rattle.returns.specs.Change.{Change, MaySend, same, did_at}
 use Rattle.returns.specs.Change as relation
 use Rattle.returns.specs.History.{Note, quiet}
@@ -77,7 +76,7 @@ module _ (f n x : ℕ) (odd : n ≡ suc (f + f)) (fits : n ≤ max_nodes) (x_bel
       (each_sent x step.node (omega (arith, p.has_size)) (omega (arith, p.has_size))
       (MaySend x (shown x net) k (seen x step.node)) out T.sending)))
     where
-      out : List Outgoing
+      out : List (Option Envelope)
       out = outgoing step.node step.sends back
 
       packets : List Packet

@@ -1,5 +1,5 @@
 -- Answers and refusals: document 01's number of each refusal, by one definition, and the two shapes of a decision.
-use Rattle.std.specs.Prelude.{ℕ, Bool, true, false}
+use Rattle.std.specs.Prelude.{ℕ, Bool, true, false, Result, Ok, Err}
 use Rattle.protocol.specs.declared.Answer.{Answer}
 use Rattle.protocol.specs.declared.Answer.TheVariants as answer
 use Rattle.protocol.specs.declared.Node.{Node}
@@ -44,6 +44,11 @@ by_decision OtherTag = true
 -- "A refusal changes no byte": the node as it was, and nothing sent
 unfoldable pub refused : Node → Refusal → Step
 refused node why = record { answer = answer.Refused why; node = node; sends = sends.Nothing }
+
+-- what a decision that may refuse makes of a node: the step that it gives, or its refusal
+unfoldable pub step_after : Node → Result Step Refusal → Step
+step_after node (Ok step) = step
+step_after node (Err why) = refused node why
 
 -- "Everything else answers "ok""
 unfoldable pub ok : Node → Sends → Step

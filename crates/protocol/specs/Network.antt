@@ -1,12 +1,11 @@
 -- The nodes of a group on a network, each on a machine of its own: no table, no store and no bytes. A run is told by the same
 -- calls as a run over a store (`Call`): what was called, what it answered, what was delivered.
-use Rattle.std.specs.Prelude.{ℕ, ◌<◌, ◌≡◌, true, false, cond, length, set, None, Option, Some}
+use Rattle.std.specs.Prelude.{ℕ, ◌<◌, ◌≡◌, true, false, length, set, None, Option, Some}
 use mathlib.Core.List.{List, [], ◌∷◌, ◌++◌, Memᴰ}
 use Rattle.item.specs.declared.Item.{Item}
 use Rattle.item.specs.declared.Tag.{Tag}
 use Rattle.message.specs.Rows.{held_rows}
 use Rattle.message.specs.declared.Envelope.{Envelope}
-use Rattle.message.specs.declared.Outgoing.{Outgoing}
 use Rattle.protocol.specs.Answer.{is_refused, by_decision}
 use Rattle.protocol.specs.Call.{Call}
 use Rattle.protocol.specs.Deliver.{deliver_step}
@@ -38,9 +37,10 @@ unfoldable pub packet_of : Node → Envelope → Packet
 packet_of node e = record { envelope = e; rows = held_rows e.message node.n (row_items node) }
 
 -- the packets of what a node sends
-unfoldable pub packets_of : Node → List Outgoing → List Packet
+unfoldable pub packets_of : Node → List (Option Envelope) → List Packet
 packets_of node [] = []
-packets_of node (o ∷ os) = cond o.present (packet_of node o.envelope ∷ packets_of node os) (packets_of node os)
+packets_of node (None ∷ os) = packets_of node os
+packets_of node (Some e ∷ os) = packet_of node e ∷ packets_of node os
 
 -- after a decision of node k, which answers the node `back`: the node is replaced, and what it sends is added
 unfoldable pub network_after : Network → ℕ → ℕ → Step → Network

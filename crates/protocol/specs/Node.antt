@@ -1,6 +1,6 @@
 -- A node's fields, and every kind of change of a node, each by one definition. A change names only the fields that it
 -- changes in its arguments; the others are handed on.
-use Rattle.std.specs.Prelude.{ℕ, zero, suc, ◌/◌, Bool, true, false, cond, List, [], ◌∷◌, map, ltb, get_or, set, replicate}
+use Rattle.std.specs.Prelude.{ℕ, suc, ◌/◌, Bool, false, List, map, ltb, get_or, set, replicate, count_by, Option, Some, None, is_some}
 use Rattle.item.specs.Maxima.{max_nodes}
 use Rattle.item.specs.Counter.{next_incarnation, same_incarnation}
 use Rattle.item.specs.Row.{zero_row}
@@ -9,17 +9,13 @@ use Rattle.item.specs.declared.counters.Incarnation.{Incarnation}
 use Rattle.item.specs.declared.Item.{Item}
 use Rattle.item.specs.declared.Row.{Row}
 use Rattle.protocol.specs.declared.Node.{Node}
-use Rattle.protocol.specs.declared.Peer.{Peer}
 use Rattle.protocol.specs.declared.Phase.{Phase}
 use Rattle.protocol.specs.declared.Phase.TheVariants.{Down, Fetching, Up}
 use Rattle.protocol.specs.declared.Stage.TheVariants.{Idle}
 
--- a peer that is neither counted nor asked
-abbrev pub no_peer : Peer
-no_peer = record { present = false; incarnation = record { 0 = 0 } }
-
-abbrev pub no_peers : List Peer
-no_peers = replicate max_nodes no_peer
+-- nobody is counted, or asked
+abbrev pub no_peers : List (Option Incarnation)
+no_peers = replicate max_nodes None
 
 abbrev pub zero_rows : List Row
 zero_rows = replicate max_nodes zero_row
@@ -45,14 +41,13 @@ stored_row item incarnation attempt =
 abbrev pub rebuilt_row : Item → Row
 rebuilt_row item = stored_row item (record { 0 = 0 }) (record { 0 = 0 })
 
--- peer i of those counted, or of those asked
-unfoldable pub peer_of : List Peer → ℕ → Peer
-peer_of peers i = get_or peers i no_peer
+-- the incarnation under which peer i is counted, or asked, if it is
+unfoldable pub peer_of : List (Option Incarnation) → ℕ → Option Incarnation
+peer_of peers i = get_or peers i None
 
 -- how many are counted, or asked
-unfoldable pub count_peers : List Peer → ℕ
-count_peers [] = zero
-count_peers (peer ∷ peers) = cond peer.present (suc (count_peers peers)) (count_peers peers)
+unfoldable pub count_peers : List (Option Incarnation) → ℕ
+count_peers peers = count_by is_some peers
 
 -- fewer than f are counted: not yet "At f counted", "At f"
 abbrev pub below_half : Node → Bool
@@ -135,7 +130,7 @@ with_counted node i incarnation =
       attempt = node.attempt;
       phase = node.phase;
       rows = node.rows;
-      counted = set node.counted i (record { present = true; incarnation = incarnation });
+      counted = set node.counted i (Some incarnation);
       asked = node.asked;
     }
 

@@ -1,6 +1,7 @@
 -- Delivery of Store, Stored, Confirm and Confirmed to one node (document 01, Deliver): the two rounds of a write.
 -- The sender and its incarnation are the envelope's.
-use Rattle.std.specs.Prelude.{ℕ, Bool, cond, ◌&&◌}
+use Rattle.std.specs.Prelude.{ℕ, Bool, cond, ◌&&◌, is_some, Some, Result, Ok, Err}
+use Rattle.std.specs.Option.{option_eq}
 use Rattle.item.specs.Counter.{same_incarnation, same_attempt, earlier}
 use Rattle.item.specs.Item.{ranks_below, same_item}
 use Rattle.item.specs.declared.counters.Attempt.{Attempt}
@@ -15,27 +16,26 @@ use Rattle.protocol.specs.declared.Answer.{Answer}
 use Rattle.protocol.specs.declared.Answer.TheVariants as answer
 use Rattle.protocol.specs.declared.Node.{Node}
 use Rattle.protocol.specs.declared.Phase.{Phase}
+use Rattle.protocol.specs.declared.Refusal.{Refusal}
 use Rattle.protocol.specs.declared.Refusal.TheVariants.{NotTaken, Stale, Counted, LowerRank, OtherTag}
 use Rattle.protocol.specs.declared.Sends.TheVariants as sends
 use Rattle.protocol.specs.declared.Stage.TheVariants.{Confirming}
 use Rattle.protocol.specs.declared.Step.{Step}
-use Rattle.protocol.specs.declared.Verdict.{Verdict}
-use Rattle.protocol.specs.declared.Verdict.TheVariants as verdict
 
 -- what the sender's row says to an item stored under these counters. "12: index below the row's. 13: same index, other
 -- tag. 10: same item, and incarnation, then attempt, earlier than the row's. Otherwise the row takes it"
-unfoldable pub store_verdict : Row → Incarnation → Attempt → Item → Verdict
+unfoldable pub store_verdict : Row → Incarnation → Attempt → Item → Result (Unit {0}) Refusal
 store_verdict row incarnation attempt item =
-    cond (ranks_below item row.item) (verdict.Refuse LowerRank)
-    (cond (ranks_below row.item item) verdict.Take
+    cond (ranks_below item row.item) (Err LowerRank)
+    (cond (ranks_below row.item item) (Ok tt)
     (cond (same_item item row.item)
-    (cond (earlier incarnation attempt row.incarnation row.attempt) (verdict.Refuse Stale) verdict.Take)
-    (verdict.Refuse OtherTag)))
+    (cond (earlier incarnation attempt row.incarnation row.attempt) (Err Stale) (Ok tt))
+    (Err OtherTag)))
 
 -- reply_store: "the row takes it; Stored goes back". Document 002 also answers a Store of a lower index; here it is 12.
-unfoldable pub reply_store : Verdict → Node → ℕ → Incarnation → Attempt → Item → Step
-reply_store (verdict.Refuse why) node sender incarnation attempt item = refused node why
-reply_store verdict.Take node sender incarnation attempt item =
+unfoldable pub reply_store : Result (Unit {0}) Refusal → Node → ℕ → Incarnation → Attempt → Item → Step
+reply_store (Err why) node sender incarnation attempt item = refused node why
+reply_store (Ok takes) node sender incarnation attempt item =
     ok (with_row node sender (stored_row item incarnation attempt)) (sends.Back (message.Stored incarnation attempt item))
 
 -- "Store, at Up."
@@ -52,7 +52,7 @@ own_write node other attempt item =
 
 -- "11: sender counted"
 unfoldable pub is_counted : Node → ℕ → Bool
-is_counted node sender = (peer_of node.counted sender).present
+is_counted node sender = is_some (peer_of node.counted sender)
 
 -- send_confirm_store: "Confirm to exactly these f"
 unfoldable pub send_confirm : Node → Step
@@ -92,7 +92,7 @@ on_confirm node sender incarnation other attempt item =
 -- "the sender .. one of the f under the recorded incarnation"
 unfoldable pub asked_under : Node → ℕ → Incarnation → Bool
 asked_under node sender incarnation =
-    (peer_of node.asked sender).present && same_incarnation (peer_of node.asked sender).incarnation incarnation
+    option_eq same_incarnation (peer_of node.asked sender) (Some incarnation)
 
 -- ""settled", or Up and "accepted" if it was Returning"
 unfoldable pub end_answer : Phase → Item → Answer

@@ -5,7 +5,7 @@
 ghost use Rattle.std.specs.Prelude.{◌≡◌};
 ghost use Rattle.protocol.specs.Claim.{EveryNetworkReturn};
 ghost use Rattle.protocol.specs.Network.{NodeRefusals};
-ghost use Rattle.protocol.specs.Node.{blank_node, no_peer};
+ghost use Rattle.protocol.specs.Node.{blank_node};
 
 use item::{Attempt, Incarnation, Item, Row, Tag};
 use message::Message;
@@ -31,13 +31,6 @@ pub enum Phase {
     Up(Stage),
 }
 
-// What a node notes of another node that it counts or asks: whether it does, and under which incarnation.
-#[derive(Clone, Copy)]
-pub struct Peer {
-    pub present: bool,
-    pub incarnation: Incarnation,
-}
-
 // One node of a group. Whatever its phase has no use for is zero.
 #[derive(Clone, Copy)]
 pub struct Node {
@@ -50,10 +43,10 @@ pub struct Node {
     pub phase: Phase,
     // What each node last stored here; while Fetching, the greatest items of the tables counted.
     pub rows: [Row; Node::MAX_ROWS],
-    // The peers whose answers or tables are counted in this stage.
-    pub counted: [Peer; Node::MAX_ROWS],
-    // While Confirming, the f peers asked.
-    pub asked: [Peer; Node::MAX_ROWS],
+    // The peers whose answers or tables are counted in this stage, each by the incarnation under which it is counted.
+    pub counted: [Option<Incarnation>; Node::MAX_ROWS],
+    // While Confirming, the f peers asked, each by the incarnation under which it answered Stored.
+    pub asked: [Option<Incarnation>; Node::MAX_ROWS],
 }
 
 // Why a call is refused. `refusal_number` gives document 01's number of each.
@@ -112,13 +105,6 @@ pub enum Sends {
     Asked(Attempt, Item),
 }
 
-// What a row says to an item that is to be stored in it.
-#[derive(Clone, Copy)]
-pub enum Verdict {
-    Take,
-    Refuse(Refusal),
-}
-
 // What a node's phase uses of its rows: nothing; items and marks; or items and counters.
 #[derive(Clone, Copy)]
 pub enum RowUse {
@@ -146,18 +132,6 @@ pub enum Event {
     Deliver { record: u64 },
 }
 
-impl Peer {
-    // A peer that is neither counted nor asked.
-    pub fn none() -> Peer
-        ensures { result ≡ no_peer }
-    {
-        Peer {
-            present: false,
-            incarnation: Incarnation(0),
-        }
-    }
-}
-
 impl Node {
     // The most nodes that a group may have.
     pub const MAX_NODES: usize = item::MAX_NODES;
@@ -169,17 +143,15 @@ impl Node {
     pub fn blank(number: usize, n: usize, incarnation: Incarnation) -> Node
         ensures { result ≡ blank_node number n incarnation }
     {
-        let row = Row::zero();
-        let peer = Peer::none();
         Node {
-            number: number,
-            n: n,
-            incarnation: incarnation,
+            number,
+            n,
+            incarnation,
             attempt: Attempt(0),
             phase: Phase::Down,
-            rows: [row; Node::MAX_ROWS],
-            counted: [peer; Node::MAX_ROWS],
-            asked: [peer; Node::MAX_ROWS],
+            rows: [Row::zero(); Node::MAX_ROWS],
+            counted: [None; Node::MAX_ROWS],
+            asked: [None; Node::MAX_ROWS],
         }
     }
 }

@@ -1,12 +1,13 @@
 // What a node makes of a message without rows: the answer, what changes of the node, and what it sends.
-ghost use Rattle.std.specs.Prelude.{◌≡◌};
+ghost use Rattle.std.specs.Prelude.{◌≡◌, Ok};
 ghost use Rattle.protocol.specs.Node.{with_counted, confirming_begun};
 ghost use Rattle.protocol.specs.Phase.{at_stage};
 ghost use Rattle.protocol.specs.declared.Stage.TheVariants as stage;
-ghost use Rattle.sender_view.specs.Decision.{refused_with, ok_with, changed as with_change, step_by};
+ghost use Rattle.sender_view.specs.Decision.{ok_with, sender_counted, changed as with_change, step_by};
 
+use crate::view::SenderView;
 use item::{Incarnation, Row};
-use node::{confirming_begun, with_counted, with_row, write_ended};
+use node::{confirming_begun, half, with_counted, with_row, write_ended};
 use phase::at_stage;
 use protocol::{Answer, Node, Refusal, Sends, Stage, Step};
 
@@ -24,23 +25,12 @@ pub enum NodeChange {
     Ended,
 }
 
-// What a node makes of a message.
+// What a node makes of a message that it does not refuse.
 #[derive(Clone, Copy)]
 pub struct Decision {
     pub answer: Answer,
     pub change: NodeChange,
     pub sends: Sends,
-}
-
-// A refusal: nothing changes, and nothing is sent.
-pub fn refused(why: Refusal) -> Decision
-    ensures { result ≡ refused_with why }
-{
-    Decision {
-        answer: Answer::Refused(why),
-        change: NodeChange::Nothing,
-        sends: Sends::Nothing,
-    }
 }
 
 // The answer "ok", with what changes and what is sent.
@@ -52,6 +42,25 @@ pub fn ok(change: NodeChange, sends: Sends) -> Decision
         change: change,
         sends: sends,
     }
+}
+
+// An answer of the sender to the node's own write: refused with 11; otherwise the sender is counted, and at f counted it is
+// decided as `full` says.
+#[tactic(auto, unfolding(crate::specs::Decision::sender_counted, crate::specs::View::below_half_in))]
+pub fn count_sender(
+    view: SenderView,
+    incarnation: Incarnation,
+    full: Decision,
+) -> Result<Decision, Refusal>
+    ensures { result ≡ sender_counted view incarnation full }
+{
+    if view.counted {
+        return Err(Refusal::Counted);
+    }
+    if view.count < half(view.n) {
+        return Ok(ok(NodeChange::Counted(incarnation), Sends::Nothing));
+    }
+    Ok(full)
 }
 
 // The sender is counted, and Confirming begins.
@@ -80,15 +89,11 @@ pub fn changed(node: Node, sender: usize, change: NodeChange) -> Node
 // The decision as a step of this node.
 #[tactic(auto, unfolding(crate::specs::Decision::step_by))]
 pub fn step_of(node: Node, sender: usize, decision: Decision) -> Step
-    ensures { result ≡ step_by node sender decision }
+    ensures { result ≡ step_by node sender (Ok decision) }
 {
-    let answer = decision.answer;
-    let change = decision.change;
-    let sends = decision.sends;
-    let next = changed(node, sender, change);
     Step {
-        answer: answer,
-        node: next,
-        sends: sends,
+        answer: decision.answer,
+        node: changed(node, sender, decision.change),
+        sends: decision.sends,
     }
 }

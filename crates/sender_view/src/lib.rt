@@ -4,5 +4,5 @@
 mod decision;
 mod view;
 
-pub use decision::{Decision, NodeChange, changed, ok, refused, step_of};
+pub use decision::{Decision, NodeChange, changed, count_sender, ok, step_of};
 pub use view::{SenderView, own_write, view_of};

@@ -5,8 +5,8 @@ ghost use Rattle.protocol.specs.Node.{count_peers};
 ghost use Rattle.sender_view.specs.View.{some_peer, view_of, own_write_in};
 
 use item::{Attempt, Incarnation, Item, Row};
-use node::count_peers;
-use protocol::{Node, Peer, Phase};
+use node::{count_peers, is_counted, own_item, peer_of, row_of};
+use protocol::{Node, Phase};
 
 // What a node is to one sender.
 #[derive(Clone, Copy)]
@@ -22,74 +22,45 @@ pub struct SenderView {
     pub row: Row,
     // Whether the sender is counted.
     pub counted: bool,
-    // What is noted of the sender among those asked.
-    pub asked: Peer,
+    // The incarnation under which the sender is asked, if it is.
+    pub asked: Option<Incarnation>,
     // How many are counted with the sender.
     pub count: usize,
 }
 
 // How many are counted with the sender.
-fn count_with(peers: [Peer; Node::MAX_ROWS], sender: usize) -> usize
+fn count_with(peers: [Option<Incarnation>; Node::MAX_ROWS], sender: usize) -> usize
     ensures { result ≡ count_peers (set peers sender some_peer) }
 {
-    if Node::MAX_ROWS <= sender {
-        return count_peers(peers);
-    }
     let mut counted = peers;
-    counted[sender] = Peer {
-        present: true,
-        incarnation: Incarnation(0),
-    };
-    count_peers(counted)
+    if sender < Node::MAX_ROWS {
+        counted[sender] = Some(Incarnation(0));
+    }
+    count_peers(&counted)
 }
 
-// What the node is to this sender. Rows and peers are read here and not by `node::row_of` and `node::peer_of`, which take
-// the whole node or a list by value: the compiler would copy it for each of them. Past the last row they read as there.
-#[tactic(auto, unfolding(crate::specs::View::view_of, protocol::specs::Node::own_item, protocol::specs::Node::row_of, protocol::specs::Storing::is_counted, protocol::specs::Node::peer_of))]
-pub fn view_of(node: Node, sender: usize) -> SenderView
-    ensures { result ≡ view_of node sender }
+// What the node is to this sender.
+#[tactic(auto, unfolding(crate::specs::View::view_of))]
+pub fn view_of(node: &Node, sender: usize) -> SenderView
+    ensures { result ≡ view_of node.now sender }
 {
-    let number = node.number;
-    let incarnation = node.incarnation;
-    let attempt = node.attempt;
-    let phase = node.phase;
-    let mut own = Row::zero();
-    if number < Node::MAX_ROWS {
-        own = node.rows[number];
-    }
-    let mut row = Row::zero();
-    let mut counted = Peer::none();
-    let mut asked = Peer::none();
-    if sender < Node::MAX_ROWS {
-        row = node.rows[sender];
-        counted = node.counted[sender];
-        asked = node.asked[sender];
-    }
-    let item = own.item;
-    let peers = node.counted;
     SenderView {
         n: node.n,
-        incarnation: incarnation,
-        attempt: attempt,
-        phase: phase,
-        own: item,
-        row: row,
-        counted: counted.present,
-        asked: asked,
-        count: count_with(peers, sender),
+        incarnation: node.incarnation,
+        attempt: node.attempt,
+        phase: node.phase,
+        own: own_item(node),
+        row: row_of(node, sender),
+        counted: is_counted(node, sender),
+        asked: peer_of(&node.asked, sender),
+        count: count_with(node.counted, sender),
     }
 }
 
 // Whether other incarnation, attempt and item are the node's own present ones.
-#[tactic(auto, unfolding(crate::specs::View::own_write_in))]
+#[tactic(auto, unfolding(crate::specs::View::own_write_in, item::specs::Counter::same_incarnation, item::specs::Counter::same_attempt, item::specs::Item::same_item, item::specs::Item::tags_agree))]
 pub fn own_write(view: SenderView, other: Incarnation, attempt: Attempt, item: Item) -> bool
     ensures { result ≡ own_write_in view other attempt item }
 {
-    if !other.same(view.incarnation) {
-        return false;
-    }
-    if !attempt.same(view.attempt) {
-        return false;
-    }
-    item.same(view.own)
+    other == view.incarnation && attempt == view.attempt && item == view.own
 }

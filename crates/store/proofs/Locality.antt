@@ -2,7 +2,7 @@
 -- from 1 reads after `put` as before or as the message put; after `drop` as before or as none; after set-up as none.
 use Prim.Native.Nat.{ℕ, zero, suc, ◌<◌}
 use mathlib.Core.Path.{◌≡◌, refl, sym, ap, subst, ◌∙◌}
-use mathlib.Core.Bool.{Bool, true, false, cond}
+use mathlib.Core.Bool.{Bool, true, false}
 use mathlib.Core.Logic.{◌≢◌, ◌⊎◌, inl, inr, ⊎_elim}
 use mathlib.Core.List.{List, [], ◌∷◌, Memᴰ}
 use native.Mathlib.Omega.{arith}
@@ -14,7 +14,7 @@ use lib.Seq.{get_or-set_same, get_or-set_other, set_out}
 use Rattle.item.specs.Tests.{by_cond}
 use Rattle.item.specs.declared.Item.{Item}
 use Rattle.message.specs.declared.Envelope.{Envelope}
-use Rattle.message.specs.declared.Outgoing.{Outgoing}
+use Rattle.std.specs.Prelude.{Option, Some}
 use Rattle.endian.proofs.PartLaws.{by_order}
 use Rattle.endian.specs.Number.{with_number}
 use Rattle.endian.proofs.NumberLaws.{length_with_number}
@@ -180,35 +180,31 @@ put_local rs e rows =
     (λ z. local_then (λ r q k l. alike_trans k l) (taken_local rs e rows (eqb-false (first_free rs) 0 z)) (appended_local (taken rs e rows) e.addressee (first_free rs)))
 
 -- a record that holds one of these messages
-pub record HoldsOne (n : ℕ) (os : List Outgoing) (rows : List Item) (r : List ℕ) : Type 0 where
-  pub outgoing : Outgoing
-  pub among : Memᴰ outgoing os
-  pub present : outgoing.present ≡ true
-  pub holds : Holds n outgoing.envelope rows r
+pub record HoldsOne (n : ℕ) (os : List (Option Envelope)) (rows : List Item) (r : List ℕ) : Type 0 where
+  pub envelope : Envelope
+  pub among : Memᴰ (Some envelope) os
+  pub holds : Holds n envelope rows r
 
--- after several: as before apart from next, or it holds one of those that are present
-pub put_each_local : (os : List Outgoing) (rs : List (List ℕ)) (rows : List Item) → Local (HoldsOne (group_size rs) os rows) rs (put_each rs os rows)
+-- after several: as before apart from next, or it holds one of them
+pub put_each_local : (os : List (Option Envelope)) (rs : List (List ℕ)) (rows : List Item) → Local (HoldsOne (group_size rs) os rows) rs (put_each rs os rows)
 unfolding put_each
 put_each_local [] rs rows = local_none rs
-put_each_local (o ∷ os) rs rows = step (cond o.present (put_in rs o.envelope rows) rs) first (put_each_local os _ rows)
+put_each_local (None ∷ os) rs rows =
+    local_as (λ r h. record { envelope = h.envelope; among = Memᴰ.tail h.among; holds = h.holds }) (put_each_local os rs rows)
+put_each_local (Some e ∷ os) rs rows = step (put_local rs e rows) (put_each_local os _ rows)
   where
     New : List ℕ → Type 0
-    New = HoldsOne (group_size rs) (o ∷ os) rows
+    New = HoldsOne (group_size rs) (Some e ∷ os) rows
 
-    first : Local New rs (cond o.present (put_in rs o.envelope rows) rs)
-    first =
-        by_cond (Local New rs) o.present _ _
-        (λ p. local_as (λ r h. record { outgoing = o; among = Memᴰ.head refl; present = p; holds = h }) (put_local rs o.envelope rows))
-        (λ _. local_none rs)
-
-    step : (rs' : List (List ℕ)) → Local New rs rs' → Local (HoldsOne (group_size rs') os rows) rs' (put_each rs' os rows) → Local New rs (put_each rs' os rows)
-    step rs' a b =
-        local_then (λ r q k h. record { outgoing = h.outgoing; among = h.among; present = h.present; holds = alike_trans k h.holds }) a
+    step : {rs' : List (List ℕ)} → Local (Holds (group_size rs) e rows) rs rs' → Local (HoldsOne (group_size rs') os rows) rs' (put_each rs' os rows)
+        → Local New rs (put_each rs' os rows)
+    step a b =
+        local_then (λ r q k h. record { envelope = h.envelope; among = h.among; holds = alike_trans k h.holds })
+        (local_as (λ r h. record { envelope = e; among = Memᴰ.head refl; holds = h }) a)
         (local_as (λ r h. record {
-          outgoing = h.outgoing;
+          envelope = h.envelope;
           among = Memᴰ.tail h.among;
-          present = h.present;
-          holds = subst (λ (n : ℕ). Holds n h.outgoing.envelope rows r) a.size h.holds;
+          holds = subst (λ (n : ℕ). Holds n h.envelope rows r) a.size h.holds;
         }) b)
 
 -- ---- drop
@@ -242,19 +238,18 @@ pub record Reads (r q : List ℕ) : Type 0 where
 alike_reads : {r q : List ℕ} → Alike r q → Reads r q
 alike_reads a = record { message = alike_read a; rows = alike_rows a }
 
--- one of the messages that are present
-pub record ReadsOne (n : ℕ) (os : List Outgoing) (rows : List Item) (r : List ℕ) : Type 0 where
-  pub outgoing : Outgoing
-  pub among : Memᴰ outgoing os
-  pub present : outgoing.present ≡ true
-  pub reads : Reads r (record_bytes n 0 outgoing.envelope rows)
+-- one of the messages
+pub record ReadsOne (n : ℕ) (os : List (Option Envelope)) (rows : List Item) (r : List ℕ) : Type 0 where
+  pub envelope : Envelope
+  pub among : Memᴰ (Some envelope) os
+  pub reads : Reads r (record_bytes n 0 envelope rows)
 
-pub put_each_reads : (rs : List (List ℕ)) (os : List Outgoing) (rows : List Item) (i : ℕ) → i ≢ 0
+pub put_each_reads : (rs : List (List ℕ)) (os : List (Option Envelope)) (rows : List Item) (i : ℕ) → i ≢ 0
     → Reads (record_in (put_each rs os rows) i) (record_in rs i) ⊎ ReadsOne (group_size rs) os rows (record_in (put_each rs os rows) i)
 put_each_reads rs os rows i d =
     ⊎_elim
     (λ (k : Alike (record_in (put_each rs os rows) i) (record_in rs i)). inl (alike_reads k))
-    (λ (h : HoldsOne (group_size rs) os rows (record_in (put_each rs os rows) i)). inr (record { outgoing = h.outgoing; among = h.among; present = h.present; reads = alike_reads h.holds }))
+    (λ (h : HoldsOne (group_size rs) os rows (record_in (put_each rs os rows) i)). inr (record { envelope = h.envelope; among = h.among; reads = alike_reads h.holds }))
     ((put_each_local os rs rows).each i d)
 
 pub drop_reads : (rs : List (List ℕ)) (k r : ℕ) → r ≢ 0 → (i : ℕ) → i ≢ 0

@@ -1,10 +1,9 @@
 -- The changes of a store: a message put, a message dropped, and set-up (document 01: "Records are taken from the head of
 -- the free chain and put at the inbox's end; a dropped one is cleared and becomes the free head, so it is taken again").
-use Rattle.std.specs.Prelude.{ℕ, zero, suc, ◌%◌, cond, List, [], ◌∷◌, eqb, length, set}
+use Rattle.std.specs.Prelude.{ℕ, zero, suc, ◌%◌, cond, List, [], ◌∷◌, eqb, length, set, count_by, Option, Some, None, is_some}
 use Rattle.endian.specs.Number.{with_number}
 use Rattle.item.specs.declared.Item.{Item}
 use Rattle.message.specs.declared.Envelope.{Envelope}
-use Rattle.message.specs.declared.Outgoing.{Outgoing}
 use Rattle.record.specs.Layout.{next_at}
 use Rattle.record.specs.Record.{record_bytes, with_next, no_record}
 use Rattle.store.specs.Records.{record_count, record_in, on_records}
@@ -31,15 +30,15 @@ unfoldable pub put_in : List (List ℕ) → Envelope → List Item → List (Lis
 put_in rs e rows =
     cond (eqb (first_free rs) 0) rs (appended (taken rs e rows) e.addressee (first_free rs))
 
--- the messages that are present, in their order
-unfoldable pub put_each : List (List ℕ) → List Outgoing → List Item → List (List ℕ)
+-- the messages that there are, in their order
+unfoldable pub put_each : List (List ℕ) → List (Option Envelope) → List Item → List (List ℕ)
 put_each rs [] rows = rs
-put_each rs (o ∷ os) rows = put_each (cond o.present (put_in rs o.envelope rows) rs) os rows
+put_each rs (None ∷ os) rows = put_each rs os rows
+put_each rs (Some e ∷ os) rows = put_each (put_in rs e rows) os rows
 
--- how many messages are present
-unfoldable pub count_outgoing : List Outgoing → ℕ
-count_outgoing [] = zero
-count_outgoing (o ∷ os) = cond o.present (suc (count_outgoing os)) (count_outgoing os)
+-- how many messages there are
+unfoldable pub count_outgoing : List (Option Envelope) → ℕ
+count_outgoing os = count_by is_some os
 
 -- record r no longer stands on node k's inbox
 unfoldable pub unlinked : List (List ℕ) → ℕ → ℕ → List (List ℕ)

@@ -6,28 +6,26 @@ ghost use Rattle.store.specs.Records.{record_count, records_of};
 ghost use Rattle.store.specs.Chain.{walked, walk};
 ghost use Rattle.store.specs.Sound.{belongs_to, belongs_on};
 
-use record::SIZE;
+use record::layout;
 use record_read::endpoints;
-use record_read::endpoints::Ends;
 use store::chain::Chain;
 use store_access::links;
 use store_access::stride::Place;
 
 // Whether a record is a message to `owner` from another node of a group of `n`.
-#[tactic(auto, unfolding(crate::proofs::Belonging::from_another))]
-fn message_to(r: &[u8], n: usize, owner: usize) -> bool
+fn message_to(r: &[u8; record::SIZE], n: usize, owner: usize) -> bool
     ensures { result ≡ belongs_to n owner r.now }
 {
-    let Ends::Found { sender, addressee } = endpoints::read(r, n) else {
+    let Some(ends) = endpoints::read(r, n) else {
         return false;
     };
-    if n <= sender {
+    if n <= ends.sender {
         return false;
     }
-    if sender == addressee {
+    if ends.sender == ends.addressee {
         return false;
     }
-    addressee == owner
+    ends.addressee == owner
 }
 
 // Whether record `i` is a message to `owner` from another node of a group of `n`.
@@ -35,11 +33,10 @@ fn message_to(r: &[u8], n: usize, owner: usize) -> bool
 fn belongs_to(s: &[u8], i: usize, n: usize, owner: usize) -> bool
     ensures { result ≡ belongs_to n owner (record_of s.now i) }
 {
-    if s.len() / SIZE <= i {
+    let Some(r) = layout::record_at(s, i) else {
         return false;
-    }
-    let a = i * SIZE;
-    message_to(&s[a..a + SIZE], n, owner)
+    };
+    message_to(r, n, owner)
 }
 
 // Whether record `i` belongs on a chain of a group of `n`.
