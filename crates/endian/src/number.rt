@@ -12,10 +12,11 @@ pub trait Number: Copy {
     // How many bytes it has.
     const WIDTH: usize;
 
-    // The number in the lowest of eight bytes.
+    // The number that the lowest of eight bytes say.
     fn low(v: u64) -> Self
         ensures { number result ≡ v % 256 ^ WIDTH };
 
+    // The same number in eight bytes.
     fn wide(self) -> u64
         ensures { result ≡ number self };
 

@@ -3,6 +3,7 @@
 use item::{Attempt, Incarnation, Item};
 
 // The number of each kind.
+// Kept: an enum says the six a second time beside `message::Message`, and a record may have any byte here.
 pub const STORE: u8 = 1;
 
 pub const STORED: u8 = 2;

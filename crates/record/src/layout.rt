@@ -37,8 +37,7 @@ pub fn record_at(s: &[u8], i: usize) -> Option<&[u8; SIZE]>
 }
 
 // Where record `i` begins in so many bytes; none unless it lies whole within them.
-// Kept: a function that lends the record to be written, as `record_at` does to be read; its clause on what the bytes become got
-// no proof (tried over `split_at_mut_checked` and `first_chunk_mut`).
+// Kept: lent to be written, as `record_at` lends it, what the bytes become got no proof (tried: `split_at_mut_checked`).
 pub fn start_of(len: usize, i: usize) -> Option<usize>
     ensures { SomeIff result (i * record_size + record_size ≤ len) (i * record_size) }
 {

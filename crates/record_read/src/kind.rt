@@ -52,23 +52,10 @@ pub fn message_of(fields: Fields) -> Option<Message>
     }
 }
 
-// Whether the kind of fields is known and what it does not use is 0: as `message_of`, with no message built.
-#[tactic(auto, using(crate::specs::Known::known_if_lem), unfolding(crate::specs::Known::is_known, record::specs::Kind::message_of, item::specs::Counter::same_incarnation))]
+// Whether the kind of fields is known and what it does not use is 0.
+#[tactic(auto, unfolding(crate::specs::Known::is_known))]
 pub fn is_known(fields: Fields) -> bool
     ensures { result ≡ is_known (message_of fields) }
 {
-    let Fields {
-        kind,
-        other,
-        attempt,
-        item,
-        ..
-    } = fields;
-    match kind {
-        STORE => other == Incarnation(0),
-        STORED | CONFIRM | CONFIRMED => true,
-        FETCH => other == Incarnation(0) && no_write(attempt, item),
-        TABLE => no_write(attempt, item),
-        _ => false,
-    }
+    message_of(fields).is_some()
 }

@@ -42,8 +42,7 @@ fn fitting_fields(numbers: &[u64; COUNT]) -> Fields
 }
 
 // Whether every number is 0. All are compared, by one branch-free loop, which the compiler vectorises.
-// Kept: beside `endian::zeros::is_zero`, which is the same over bytes. One generic function needs a trait with `|`, `==` and the
-// zero of a type and their laws, and each caller the list mapped by it.
+// Kept: `endian::zeros::is_zero` is the same over bytes; one for both needs a trait with `|` and its laws, and a mapped list.
 #[tactic(auto, unfolding(endian::specs::Zero::all_zero))]
 fn is_zero(numbers: &[u64]) -> bool
     ensures { result ≡ all_zero numbers.now }
