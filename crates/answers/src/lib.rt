@@ -20,7 +20,8 @@ use script::put_number;
 // The bytes of the longest output line.
 pub const LINE_ROOM: usize = 72;
 
-// Writes the output line at the place: the count, and what the input line was answered, or that it was not read. Gives the place after it. Where fewer bytes are left than the longest line takes, nothing is written and the place comes back.
+// Writes the output line at the place: the count, and what the input line was answered, or that it was not read. Gives
+// the place after it. Where fewer bytes are left than the longest line takes, nothing is written and the place comes back.
 pub fn print_line(out: &mut [u8], at: usize, count: u64, reply: Option<Answer>) -> usize
     ensures { (result ≡ place_after line_room out.old at (output_line count reply)) × (out.new ≡ placed line_room out.old at (output_line count reply)) }
 {

@@ -81,7 +81,8 @@ fn read_on(piece: &[u8], from: Position, out: &mut [u8]) -> Position
     // Kept: where it stops is part of what it gives, so a `for` would count the same place beside its items.
     while here.next < piece.len() {
         let b = piece[here.next];
-        if b != b'\n' {
+        let in_line = b != b'\n';
+        if in_line {
             here.pending.push(b);
             here.next += 1;
             continue;

@@ -14,21 +14,21 @@ use Rattle.drill_state.proofs.line_reader.read_on.Goals as goal
 pub loop-here-init : goal.loop-here-init
 loop-here-init c = (search rules, kept_start _ _ _)
 
-pub loop-here-preserved-then-b-ne10 : goal.loop-here-preserved-then-b-ne10
-loop-here-preserved-then-b-ne10 c =
-    (c.loop-here.invariant.0, kept_byte c.loop-here.invariant.1 c.loop-here-test.true c.if-b-ne10.true _ c.push.ensures)
+pub loop-here-preserved-then-in_line : goal.loop-here-preserved-then-in_line
+loop-here-preserved-then-in_line c =
+    (c.loop-here.invariant.0, kept_byte c.loop-here.invariant.1 c.loop-here-test.true (search rules) _ c.push.ensures)
 
 pub returns-then-is_some : goal.returns-then-is_some
 returns-then-is_some c =
     let room : c.loop-here.here.at + line_room ≤ length c.loop-here.out = leb-true _ _ (granted c.has_room.ensures (search rules)) in
-    asks_there c.loop-here.invariant.1 c.loop-here-test.true c.if-b-ne10.false room _ c.none-here.ensures _
+    asks_there c.loop-here.invariant.1 c.loop-here-test.true (search rules) room _ c.none-here.ensures _
     (c.asked_by-asked.ensures ∙ ap (asked_by _) c.read.ensures) (search rules)
 
 pub loop-here-preserved : goal.loop-here-preserved
 loop-here-preserved c =
     let room : c.loop-here.here.at + line_room ≤ length c.loop-here.out = leb-true _ _ (granted c.has_room.ensures (search rules)) in (
       omega (arith, c.if-here.false, c.loop-here.invariant.0),
-      kept_unread c.loop-here.invariant.1 c.loop-here-test.true c.if-b-ne10.false room _ c.none-here.ensures _
+      kept_unread c.loop-here.invariant.1 c.loop-here-test.true (search rules) room _ c.none-here.ensures _
           (c.asked_by-asked.ensures ∙ ap (asked_by _) c.read.ensures) (search rules) _ _ c.print_line.ensures,
     )
 
