@@ -16,7 +16,7 @@ use Rattle.endian.specs.Number.{bytes, with_number}
 use Rattle.endian.proofs.NumberLaws.{length_bytes}
 use Rattle.record.specs.declared.kinds.Fields.{Fields}
 pub use Rattle.message.proofs.RowsLaws.{length_padded, get_or_padded}
-use Rattle.record.specs.Layout.{record_size, next_at, kind_at, address_at, incarnation_at, other_at, attempt_at, item_at, rows_at, index_size, row_size, fields_size, item_bytes, address_byte, field_bytes, rows_bytes, padded, item_in, items_in, layout_bytes}
+use Rattle.record.specs.Layout.{record_size, next_at, kind_at, address_at, incarnation_at, other_at, attempt_at, item_at, rows_at, index_size, row_size, fields_size, item_bytes, address_byte, field_bytes, rows_bytes, item_in, items_in, layout_bytes}
 
 -- the length of an array of structs
 pub length_mapped : {X Y : Type 0} (f : X → Y) (l : List X) (n : ℕ) → length (map f l) ≡ n → length l ≡ n
@@ -100,21 +100,6 @@ with_groups r next f items hr hi =
 
 pub length_layout : (next : ℕ) (f : Fields) (items : List Item) → length items ≡ max_nodes → length (layout_bytes next f items) ≡ record_size
 length_layout next f items h = simp (length-append, length_bytes, length_fields, length_rows, h)
-
--- ---- padding
-
-pub padded_all : (items : List Item) → padded (length items) items ≡ items
-unfolding padded
-padded_all [] = refl
-padded_all (i ∷ items) = ap (λ (l : List Item). i ∷ l) (padded_all items)
-
--- past the list there is one zero item more
-pub padded_more : (j : ℕ) (items : List Item) → length items ≤ j → padded (suc j) items ≡ padded j items ++ (zero_item ∷ [])
-unfolding padded
-padded_more zero [] h = refl
-padded_more zero (i ∷ items) h = absurd (not-suc-le-zero h)
-padded_more (suc j) [] h = ap (λ (l : List Item). zero_item ∷ l) (padded_more j [] (omega arith))
-padded_more (suc j) (i ∷ items) h = ap (λ (l : List Item). i ∷ l) (padded_more j items (le_of_suc-le-suc h))
 
 -- ---- the reader
 

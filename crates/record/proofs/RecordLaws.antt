@@ -8,7 +8,7 @@ use borrow.Rule.Slice.PartMut.{put_mid}
 use native.Mathlib.Omega.{arith}
 use lib.ListN.{length, take, drop, get_or}
 use Rattle.endian.specs.Part.{with_part}
-use Rattle.endian.proofs.PartLaws.{part_is, part_none, length_part, lent, put_back, with_none}
+use Rattle.endian.proofs.PartLaws.{by_order, part_is, part_none, length_part, lent, put_back, with_none}
 use Rattle.endian.specs.Number.{with_number}
 use Rattle.endian.proofs.NumberLaws.{bytes_low}
 use Rattle.record.specs.Chunk.{chunk, with_chunk, cut}
@@ -49,6 +49,12 @@ module _ (s : List ℕ) (i : ℕ) where
   unfolding record_of chunk
   record_is h = part_is record_size s (i * record_size) h
 
+  pub length_record_most : length (record_of s i) ≤ record_size
+  length_record_most =
+      by_order (i * record_size + record_size) (length s)
+      (λ h. omega (arith, length_record_of h))
+      (λ h. rw (record_none h) (omega arith))
+
   -- the record as code lends it
   pub record_lent : i * record_size + record_size ≤ length s
       → take (i * record_size + record_size - i * record_size) (drop (i * record_size) s) ≡ record_of s i
@@ -78,8 +84,11 @@ module _ (s : List ℕ) (i : ℕ) where
 -- array i of a store's bytes is record i
 pub array_is_record : (s : List ℕ) (i : ℕ) (all : List (List ℕ)) → all ≡ first_chunks record_size (length s / record_size) s
     → length all ≡ length s / record_size → (o : Option (Bor (List ℕ))) → IsItemAt all i o
-    → MatchOption o (record_of s i ≡ []) (λ r. r.now ≡ record_of s i)
+    → MatchOption o (record_of s i ≡ []) (λ r. (r.now ≡ record_of s i) × (length r.now ≡ record_size))
 unfolding cut
 array_is_record s i all e l None h = record_none s i (omega (arith, h.3))
 array_is_record s i all e l (Some r) h =
-    h.1 ∙ ap (λ a. get_or a i r.now) e ∙ get_or_cut record_size (length s / record_size) s i r.now (rw l at h.3.0) ∙ sym (record_is s i (omega (arith, h.3.0)))
+    let k : i * record_size + record_size ≤ length s = omega (arith, h.3.0) in
+    let p : r.now ≡ record_of s i =
+    h.1 ∙ ap (λ a. get_or a i r.now) e ∙ get_or_cut record_size (length s / record_size) s i r.now (rw l at h.3.0) ∙ sym (record_is s i k) in
+    (p, ap length p ∙ length_record_of s i k)

@@ -1,5 +1,5 @@
 // The bytes of one record: where each field stands. They are read in `record_read` and written in `record_write`.
-ghost use Rattle.std.specs.Prelude.{◌≡◌, ◌+◌, ◌*◌, ◌≤◌, MatchOption, SomeIff, []};
+ghost use Rattle.std.specs.Prelude.{◌≡◌, ◌+◌, ◌*◌, ◌≤◌, MatchOption, SomeIff, [], length};
 ghost use Rattle.record.specs.Layout.{record_size, record_of};
 
 use item::Tag;
@@ -31,7 +31,7 @@ pub const ROW_SIZE: usize = INDEX_SIZE + Tag::SIZE;
 
 // Record `i` of the bytes; none unless it lies whole within them.
 pub fn record_at(s: &[u8], i: usize) -> Option<&[u8; SIZE]>
-    ensures { MatchOption result (record_of s.now i ≡ []) (λ r. r.now ≡ record_of s.now i) }
+    ensures { MatchOption result (record_of s.now i ≡ []) (λ r. (r.now ≡ record_of s.now i) × (length r.now ≡ record_size)) }
 {
     s.as_chunks().0.get(i)
 }

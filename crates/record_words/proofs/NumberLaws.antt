@@ -1,15 +1,13 @@
 -- Laws of the numbers of a record: which fit, and one row more.
-use Prim.Native.Nat.{ℕ, zero, suc, ◌+◌, ◌*◌, ◌≤◌, ◌<◌}
+use Prim.Native.Nat.{ℕ, zero, suc, ◌+◌, ◌-◌, ◌*◌, ◌≤◌, ◌<◌}
 use native.Mathlib.Omega.{arith}
 use native.Mathlib.Numerals.{add-one}
 use native.Mathlib.Nat.{not-suc-le-zero, le_of_suc-le-suc}
 use mathlib.Core.Path.{◌≡◌, refl, sym, ap, ◌∙◌}
-use mathlib.Core.Bool.{Bool, true, false, ◌&&◌, cond, and_assoc, and-false}
+use mathlib.Core.Bool.{Bool, true, false, ◌&&◌, cond, and-false}
 use mathlib.Core.List.{List, [], ◌∷◌, ◌++◌}
-use lib.Dec.{eqb}
-use lib.Bits.{bit_or}
-use lib.ListN.{length, get_or, take, drop, set, drop_of_length-le}
-use lib.Seq.{length-take-le, drop-cons}
+use lib.ListN.{length, get_or, take, drop, set, length-drop}
+use lib.Seq.{length-take-le, take_all}
 use borrow.Author.Tests.{eqb-true, eq-eqb, ltb-true, lt-ltb}
 use Rattle.item.specs.Maxima.{max_nodes}
 use Rattle.item.specs.Item.{zero_item}
@@ -18,7 +16,7 @@ use Rattle.item.specs.declared.Item.{Item}
 use Rattle.endian.specs.Part.{with_part}
 use Rattle.endian.proofs.PartLaws.{sets_is, with_joined}
 use Rattle.endian.specs.Zero.{all_zero}
-use Rattle.endian.proofs.ZeroLaws.{both, or_zero}
+use Rattle.endian.proofs.ZeroLaws.{both}
 use Rattle.endian.specs.Number.{number_at}
 use Rattle.record.specs.Kind.{message_of, rows_held}
 use Rattle.record.specs.Layout.{rows_at, row_size, index_size, item_in, rows_of}
@@ -29,7 +27,6 @@ use Rattle.record_read.proofs.Reading.{length_rows, row_at}
 use Rattle.record_read.proofs.ReadableLaws.{rows_read}
 use Rattle.record_read.specs.Known.{is_known}
 use Rattle.message.specs.declared.Envelope.{Envelope}
-use Rattle.record_words.specs.declared.words.Stated.TheVariants.{Message, Refused}
 use Rattle.record_words.specs.Numbers.{rows_first, rows_count, number_count, field_numbers, row_numbers, numbers_of, item_from, fields_from, items_from, rows_from, numbers_fit, stated_as, stated, is_stated}
 use Rattle.std.specs.Prelude.{None, Option, Some}
 use Rattle.message.specs.declared.Message.{Message}
@@ -133,19 +130,6 @@ unfolding numbers_of
 with_all_numbers s next f rows hs hr =
     with_joined rows_first rows_count s 0 (field_numbers next f) (row_numbers rows) (length_field_numbers next f) (length_row_numbers rows ∙ ap (λ (n : ℕ). 2 * n) hr) hs
 
--- ---- numbers that are 0
-
-module _ (ns : List ℕ) (i : ℕ) where
-  -- one more joined by or
-  pub zero_joined : (joined : ℕ) → i < length ns → eqb (bit_or joined (get_or ns i 0)) 0 && all_zero (drop (i + 1) ns) ≡ eqb joined 0 && all_zero (drop i ns)
-  unfolding all_zero
-  zero_joined joined h =
-      rw (add-one, drop-cons ns i 0 h, or_zero joined (get_or ns i 0)) (and_assoc (eqb joined 0) (eqb (get_or ns i 0) 0) (all_zero (drop (suc i) ns)))
-
-  pub zero_end : length ns ≤ i → all_zero (drop i ns) ≡ true
-  unfolding all_zero
-  zero_end h = rw (drop_of_length-le ns {i = i} h)
-
 -- ---- reading rows
 
 length_items : (m : ℕ) (ns : List ℕ) (at : ℕ) → length (items_from m ns at) ≡ m
@@ -178,7 +162,7 @@ stated_known n ns h = rw h (said (message_of (fields_from ns)) refl)
     zero_after : ℕ → Bool
     zero_after k = all_zero (drop (rows_first + 2 * k) ns)
 
-    stated_if : (t : Bool) (e : Envelope) → is_stated (cond t (Message (get_or ns 0 0) e) Refused) ≡ t && true
+    stated_if : (t : Bool) (e : Envelope) → is_stated (cond t (Some (get_or ns 0 0, e)) None) ≡ t && true
     stated_if true e = refl
     stated_if false e = refl
 
@@ -188,7 +172,16 @@ stated_known n ns h = rw h (said (message_of (fields_from ns)) refl)
         stated_if (zero_after (rows_held m n)) (envelope_of (fields_from ns) m)
         ∙ ap (λ (k : ℕ). zero_after k && true) (rows_read (fields_from ns) m n e)
 
--- with the fields and their rows as they were read
-pub stated_by : (n : ℕ) (ns : List ℕ) (f : Fields) (held : ℕ) → numbers_fit ns ≡ true → f ≡ fields_from ns → held ≡ rows_of_kind f.kind n
-    → is_stated (stated n ns) ≡ all_zero (drop (rows_first + 2 * held) ns) && is_known (message_of f)
-stated_by n ns f held h ef eh = rw (eh, ef) (stated_known n ns h)
+-- with the fields and their rows as they were read, and the numbers after them as code lends them
+pub stated_by : (n : ℕ) (ns : List ℕ) (f : Fields) (held : ℕ) (clear known : Bool) → numbers_fit ns ≡ true → f ≡ fields_from ns → held ≡ rows_of_kind f.kind n
+    → clear ≡ all_zero (take (number_count - (rows_first + 2 * held)) (drop (rows_first + 2 * held) ns)) → known ≡ is_known (message_of f)
+    → is_stated (stated n ns) ≡ clear && known
+stated_by n ns f held clear known h ef eh ez ek =
+    let l = (fit_is ns h).long in
+    let rest = take_all (number_count - (rows_first + 2 * held)) (drop (rows_first + 2 * held) ns) (omega (arith, l, length-drop (rows_first + 2 * held) ns)) in
+    let by : is_stated (stated n ns) ≡ all_zero (drop (rows_first + 2 * held) ns) && is_known (message_of f) = rw (eh, ef) (stated_known n ns h) in
+    by ∙ (λ i. sym (ez ∙ ap all_zero rest) i && sym ek i)
+
+pub stated_short : (n : ℕ) (ns : List ℕ) → (length ns ≡ number_count → ⊥) → is_stated (stated n ns) ≡ false
+unfolding stated is_stated
+stated_short n ns h = rw (unfit ns (λ f. h f.long))

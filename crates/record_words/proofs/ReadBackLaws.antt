@@ -20,8 +20,6 @@ use Rattle.record.specs.RoundTrip.{ItemFits, RowsFit, FieldsFit, Fits, ReadsBack
 use Rattle.record.proofs.RoundTripLaws.{reads_back, fields_again}
 use Rattle.record_words.specs.Numbers.{rows_first, number_count, field_numbers, row_numbers, numbers_of, item_from, fields_from, items_from, rows_from, numbers_fit, stated_as, stated, numbers_as, record_numbers, bytes_as, numbers_bytes, is_found, is_stated}
 use Rattle.record_words.proofs.NumberLaws.{Fit, fit_is}
-use Rattle.record_words.specs.declared.words.Stated.{Stated}
-use Rattle.record_words.specs.declared.words.Stated.TheVariants.{Message, Refused}
 use Rattle.record_words.specs.ReadBack.{Within64, NumbersReadBack}
 use Rattle.std.specs.Prelude.{None, Option, Some}
 use Rattle.message.specs.declared.Message.{Message}
@@ -85,7 +83,7 @@ record IsStated (n : ℕ) (ns : List ℕ) : Type 0 where
   fit : Fit ns
   says : message_of (fields_from ns) ≡ Some message
   zeroed : all_zero (drop (rows_first + 2 * rows_held message n) ns) ≡ true
-  is : stated n ns ≡ Message (get_or ns 0 0) (envelope_of (fields_from ns) message)
+  is : stated n ns ≡ Some (get_or ns 0 0, envelope_of (fields_from ns) message)
 
 stated_is : (n : ℕ) (ns : List ℕ) → is_stated (stated n ns) ≡ true → IsStated n ns
 unfolding stated stated_as is_stated
@@ -95,7 +93,7 @@ stated_is n ns e = by_fit (numbers_fit ns) refl e
     none q = absurd (false≢true q)
 
     by_zero : (m : kind.Message) (t : Bool) → all_zero (drop (rows_first + 2 * rows_held m n) ns) ≡ t → message_of (fields_from ns) ≡ Some m → numbers_fit ns ≡ true
-        → is_stated (cond t (Message (get_or ns 0 0) (envelope_of (fields_from ns) m)) Refused) ≡ true → IsStated n ns
+        → is_stated (cond t (Some (get_or ns 0 0, envelope_of (fields_from ns) m)) None) ≡ true → IsStated n ns
     by_zero m false z q f e = none e
     by_zero m true z q f e = record { message = m; fit = fit_is ns f; says = q; zeroed = z; is = rw (f, q, z) }
 
@@ -103,7 +101,7 @@ stated_is n ns e = by_fit (numbers_fit ns) refl e
     by_known None q f e = none e
     by_known (Some m) q f e = by_zero m (all_zero (drop (rows_first + 2 * rows_held m n) ns)) refl q f e
 
-    by_fit : (t : Bool) → numbers_fit ns ≡ t → is_stated (cond t (stated_as n (message_of (fields_from ns)) ns) Refused) ≡ true → IsStated n ns
+    by_fit : (t : Bool) → numbers_fit ns ≡ t → is_stated (cond t (stated_as n (message_of (fields_from ns)) ns) None) ≡ true → IsStated n ns
     by_fit false f e = none e
     by_fit true f e = by_known (message_of (fields_from ns)) refl f e
 
@@ -118,7 +116,7 @@ read_back n ns w e =
     let f = fields_from ns in
     let envelope : Envelope = envelope_of f s.message in
     let r = record_bytes n (get_or ns 0 0) envelope (rows_from ns) in
-    let b : numbers_bytes n ns ≡ r = ap (λ (t : Stated). bytes_as n t ns) s.is in
+    let b : numbers_bytes n ns ≡ r = ap (λ (t : Option (ℕ × Envelope)). bytes_as n t ns) s.is in
     let fa : fields_of envelope ≡ f = fields_again f s.message s.says in
     let q = reads_back n (get_or ns 0 0) envelope (rows_from ns) s.fit.next (rw fa (fields_fit ns w s.fit)) (rows_fit max_nodes ns rows_first w) in
     let found : read_record n (numbers_bytes n ns) ≡ Some envelope = ap (read_record n) b ∙ q.0 in
@@ -139,4 +137,4 @@ bytes_straight n ns e =
     let s = stated_is n ns e in
     let f = fields_again (fields_from ns) s.message s.says in
     let r = held_are max_nodes (rows_held s.message n) ns rows_first s.zeroed in
-    sym (ap (λ (t : Stated). bytes_as n t ns) s.is ∙ (λ i. layout_bytes (get_or ns 0 0) (f i) (r i)))
+    sym (ap (λ (t : Option (ℕ × Envelope)). bytes_as n t ns) s.is ∙ (λ i. layout_bytes (get_or ns 0 0) (f i) (r i)))

@@ -3,7 +3,7 @@ use Prim.Native.Nat.{ℕ, ◌+◌, ◌-◌, ◌*◌, ◌≤◌, ◌<◌}
 use native.Mathlib.Omega.{arith}
 use mathlib.Core.Path.{◌≡◌, sym, ap, ◌∙◌}
 use mathlib.Core.Bool.{Bool, true, false, cond, and-false}
-use mathlib.Core.List.{List}
+use mathlib.Core.List.{List, []}
 use lib.Dec.{eqb}
 use lib.ListN.{length, length-append, get_or, take, drop}
 use borrow.Rule.Slice.PartMut.{put_mid}
@@ -20,7 +20,7 @@ use Rattle.record_read.proofs.Reading.{length_rows}
 use Rattle.record_words.proofs.NumberLaws.{length_field_numbers, length_row_numbers, length_rows_from}
 use Rattle.record_words.proofs.ReadBackLaws.{bytes_straight}
 use Rattle.record.specs.Record.{read_record}
-use Rattle.record.proofs.RecordLaws.{record_none, length_record_of, record_lent, record_back}
+use Rattle.record.proofs.RecordLaws.{length_record_of, lent_at, back_at}
 use Rattle.record_read.specs.Readable.{readable}
 use Rattle.record_read.proofs.ReadableLaws.{holds}
 use Rattle.record_words.specs.Records.{may_read, numbers_read, may_write, bytes_written}
@@ -60,10 +60,10 @@ module _ (s : List ℕ) (i n : ℕ) (ns : List ℕ) where
   )
 
   -- a record that is not there
-  pub read_none : length s < i * record_size + record_size → (false ≡ may_read s i n ns) × (ns ≡ numbers_read s i n ns)
+  pub read_none : record_of s i ≡ [] → (false ≡ may_read s i n ns) × (ns ≡ numbers_read s i n ns)
   unfolding may_read numbers_read read_record is_found
   read_none h =
-      (rw (record_none s i h, and-false (eqb (length ns) number_count)), rw (record_none s i h, and-false (eqb (length ns) number_count)))
+      (rw (h, and-false (eqb (length ns) number_count)), rw (h, and-false (eqb (length ns) number_count)))
 
   -- ---- writing
 
@@ -76,19 +76,19 @@ module _ (s : List ℕ) (i n : ℕ) (ns : List ℕ) where
   write_refused h q = (rw (le-leb (i * record_size + record_size) (length s) h, q), rw (le-leb (i * record_size + record_size) (length s) h, q))
 
   -- what the numbers say stands in the record as it is, and comes back with the part lent
-  pub write_stated : (next : ℕ) (f : Fields) (rows : List Item) → i * record_size + record_size ≤ length s → is_stated (stated n ns) ≡ true
-      → next ≡ get_or ns 0 0 → f ≡ fields_from ns → rows ≡ rows_from ns
-      → (true ≡ may_write s i n ns) × (put_mid (i * record_size) (i * record_size + record_size - i * record_size) s
-      (with_part record_size (take (i * record_size + record_size - i * record_size) (drop (i * record_size) s)) next_at (layout_bytes next f rows)) ≡ bytes_written s i n ns)
+  pub write_stated : (next : ℕ) (f : Fields) (rows : List Item) (r : List ℕ) (a : ℕ) → (i * record_size + record_size ≤ length s) × (a ≡ i * record_size)
+      → is_stated (stated n ns) ≡ true → next ≡ get_or ns 0 0 → f ≡ fields_from ns → rows ≡ rows_from ns
+      → r ≡ with_part record_size (take (a + record_size - a) (drop a s)) next_at (layout_bytes next f rows)
+      → (true ≡ may_write s i n ns) × (put_mid a (a + record_size - a) s r ≡ bytes_written s i n ns)
   unfolding may_write bytes_written
-  write_stated next f rows h q en ef er =
+  write_stated next f rows r a h q en ef er e =
       let whole : List ℕ = layout_bytes next f rows in
       let long : length whole ≡ record_size = length_layout next f rows (ap length er ∙ length_rows_from ns) in
       let is : whole ≡ numbers_bytes n ns = (λ j. layout_bytes (en j) (ef j) (er j)) ∙ bytes_straight n ns q in (
-        rw (le-leb (i * record_size + record_size) (length s) h, q),
-        ap (put_mid (i * record_size) (i * record_size + record_size - i * record_size) s)
-            (ap (λ (r : List ℕ). with_part record_size r next_at whole) (record_lent s i h) ∙ with_all record_size (record_of s i) whole (length_record_of s i h) long)
-            ∙ record_back s i whole h
+        rw (le-leb (i * record_size + record_size) (length s) h.0, q),
+        ap (put_mid a (a + record_size - a) s)
+            (e ∙ ap (λ (r : List ℕ). with_part record_size r next_at whole) (lent_at s i a h) ∙ with_all record_size (record_of s i) whole (length_record_of s i h.0) long)
+            ∙ back_at s i a h whole
             ∙ ap (with_record s i) is
-            ∙ rw (le-leb (i * record_size + record_size) (length s) h, q),
+            ∙ rw (le-leb (i * record_size + record_size) (length s) h.0, q),
       )

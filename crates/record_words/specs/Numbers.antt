@@ -9,8 +9,6 @@ use Rattle.record.specs.declared.kinds.Fields.{Fields}
 use Rattle.record.specs.Layout.{next_of, rows_of}
 use Rattle.record.specs.Record.{envelope_of, record_bytes, read_record}
 unfoldable pub use Rattle.record_read.specs.Readable.{is_found}
-use Rattle.record_words.specs.declared.words.Stated.{Stated}
-use Rattle.record_words.specs.declared.words.Stated.TheVariants.{Message, Refused}
 use Rattle.message.specs.declared.Envelope.{Envelope}
 use Rattle.message.specs.declared.Message.{Message}
 
@@ -69,14 +67,15 @@ numbers_fit ns =
     eqb (length ns) number_count && (ltb (get_or ns 0 0) (2 ^ 16) && (ltb (get_or ns 1 0) (2 ^ 8) && (ltb (get_or ns 2 0) 16 && (ltb (get_or ns 3 0) 16 &&
     (ltb (get_or ns 4 0) (2 ^ 32) && (ltb (get_or ns 5 0) (2 ^ 32) && ltb (get_or ns 6 0) (2 ^ 32)))))))
 
--- the message that fitting numbers say in a group of n, if every number after its rows is 0: nothing handed in is lost
-unfoldable pub stated_as : ℕ → Option Message → List ℕ → Stated
-stated_as n None ns = Refused
+-- next and the message that fitting numbers say in a group of n, if every number after its rows is 0: nothing handed in is
+-- lost
+unfoldable pub stated_as : ℕ → Option Message → List ℕ → Option (ℕ × Envelope)
+stated_as n None ns = None
 stated_as n (Some m) ns =
-    cond (all_zero (drop (rows_first + 2 * rows_held m n) ns)) (Message (get_or ns 0 0) (envelope_of (fields_from ns) m)) Refused
+    cond (all_zero (drop (rows_first + 2 * rows_held m n) ns)) (Some (get_or ns 0 0, envelope_of (fields_from ns) m)) None
 
-unfoldable pub stated : ℕ → List ℕ → Stated
-stated n ns = cond (numbers_fit ns) (stated_as n (message_of (fields_from ns)) ns) Refused
+unfoldable pub stated : ℕ → List ℕ → Option (ℕ × Envelope)
+stated n ns = cond (numbers_fit ns) (stated_as n (message_of (fields_from ns)) ns) None
 
 -- ---- numbers and bytes
 
@@ -88,15 +87,15 @@ numbers_as (Some e) r = numbers_of (next_of r) (fields_of e) (rows_of r)
 unfoldable pub record_numbers : ℕ → List ℕ → List ℕ
 record_numbers n r = numbers_as (read_record n r) r
 
--- the bytes of the record that numbers say in a group of n; none where they are refused
-unfoldable pub bytes_as : ℕ → Stated → List ℕ → List ℕ
-bytes_as n Refused ns = []
-bytes_as n (Message next e) ns = record_bytes n next e (rows_from ns)
+-- the bytes of the record that numbers say in a group of n; none where they say none
+unfoldable pub bytes_as : ℕ → Option (ℕ × Envelope) → List ℕ → List ℕ
+bytes_as n None ns = []
+bytes_as n (Some s) ns = record_bytes n s.0 s.1 (rows_from ns)
 
 unfoldable pub numbers_bytes : ℕ → List ℕ → List ℕ
 numbers_bytes n ns = bytes_as n (stated n ns) ns
 
 -- whether they are a record
-unfoldable pub is_stated : Stated → Bool
-is_stated Refused = false
-is_stated (Message next e) = true
+unfoldable pub is_stated : Option (ℕ × Envelope) → Bool
+is_stated None = false
+is_stated (Some s) = true

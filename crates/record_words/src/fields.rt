@@ -1,5 +1,5 @@
-// Whether numbers are a message, and its fields. No message is built.
-ghost use Rattle.std.specs.Prelude.{◌≤◌, ◌≡◌, true, cond, [], drop, length};
+// Whether numbers are a message, and what its fields are. No message is built.
+ghost use Rattle.std.specs.Prelude.{◌≡◌, true, false, MatchOption, get_or};
 ghost use Rattle.endian.specs.Zero.{all_zero};
 ghost use Rattle.record_words.specs.Numbers.{fields_from, is_stated, numbers_fit, stated};
 
@@ -7,41 +7,23 @@ use crate::words::{COUNT, ROWS_FIRST};
 use item::{Attempt, Incarnation, Index, Item, Tag};
 use record::kinds::Fields;
 
-// Whether there are as many numbers as a record has, and each fits its field.
+// Whether each number fits its field.
 #[tactic(auto, unfolding(crate::specs::Numbers::numbers_fit))]
-fn fit(numbers: &[u64]) -> bool
+fn fit(numbers: &[u64; COUNT]) -> bool
     ensures { result ≡ numbers_fit numbers.now }
 {
-    if numbers.len() != COUNT {
-        return false;
-    }
-    if 65535 < numbers[0] {
-        return false;
-    }
-    if 255 < numbers[1] {
-        return false;
-    }
-    if 15 < numbers[2] {
-        return false;
-    }
-    if 15 < numbers[3] {
-        return false;
-    }
-    if 4294967295 < numbers[4] {
-        return false;
-    }
-    if 4294967295 < numbers[5] {
-        return false;
-    }
-    if 4294967295 < numbers[6] {
-        return false;
-    }
-    true
+    numbers[0] < 65536
+        && numbers[1] < 256
+        && numbers[2] < 16
+        && numbers[3] < 16
+        && numbers[4] < 4294967296
+        && numbers[5] < 4294967296
+        && numbers[6] < 4294967296
 }
 
 // The fields that numbers say, where they fit.
 #[tactic(auto, using(crate::proofs::NumberLaws::fit_is), unfolding(crate::specs::Numbers::fields_from))]
-fn fitting_fields(numbers: &[u64]) -> Fields
+fn fitting_fields(numbers: &[u64; COUNT]) -> Fields
     requires { numbers_fit numbers.now ≡ true }
     ensures { result ≡ fields_from numbers.now }
 {
@@ -59,51 +41,36 @@ fn fitting_fields(numbers: &[u64]) -> Fields
     }
 }
 
-// The fields that numbers say, where they fit; else those that no numbers say, all 0.
-#[tactic(auto, unfolding(crate::specs::Numbers::fields_from))]
-pub fn fields_in(numbers: &[u64]) -> Fields
-    ensures { result ≡ cond (numbers_fit numbers.now) (fields_from numbers.now) (fields_from []) }
+// Whether every number is 0. All are compared, by one branch-free loop, which the compiler vectorises.
+// Kept: beside `endian::zeros::is_zero`, which is the same over bytes. One generic function needs a trait with `|`, `==` and the
+// zero of a type and their laws, and each caller the list mapped by it.
+#[tactic(auto, unfolding(endian::specs::Zero::all_zero))]
+fn is_zero(numbers: &[u64]) -> bool
+    ensures { result ≡ all_zero numbers.now }
 {
-    if !fit(numbers) {
-        return Fields {
-            kind: 0,
-            sender: 0,
-            addressee: 0,
-            incarnation: Incarnation(0),
-            other: Incarnation(0),
-            attempt: Attempt(0),
-            item: Item::zero(),
-        };
-    }
-    fitting_fields(numbers)
-}
-
-// Whether every number from a place on is 0. All are compared, by one branch-free loop, which the compiler vectorises.
-fn zero_from(numbers: &[u64], from: usize) -> bool
-    requires { from ≤ length numbers.now }
-    ensures { result ≡ all_zero (drop from numbers.now) }
-{
-    let mut joined: u64 = 0;
-    let mut i = from;
-    while i < numbers.len() {
-        joined = joined | numbers[i];
-        i += 1;
+    let mut joined = 0;
+    for x in numbers {
+        joined |= x;
     }
     joined == 0
 }
 
-// Whether numbers are a message in a group of `n`. Its fields are `fields_in`, its rows `rows_in` of `record_words::rows`.
-#[tactic(auto, unfolding(crate::specs::Numbers::stated, crate::specs::Numbers::is_stated))]
-pub fn is_stated(numbers: &[u64], n: usize) -> bool
-    ensures { result ≡ is_stated (stated n numbers.now) }
+// Next and the fields of the message that numbers are in a group of `n`, if they are one. Its rows are `rows_in` of
+// `record_words::rows`.
+#[tactic(auto, using(record_read::proofs::ReadableLaws::rows_of_kind_most, crate::proofs::NumberLaws::fit_is))]
+pub fn stated(numbers: &[u64; COUNT], n: usize) -> Option<(u16, Fields)>
+    ensures { MatchOption result (is_stated (stated n numbers.now) ≡ false) (λ m. (is_stated (stated n numbers.now) ≡ true) × (m.0 ≡ get_or numbers.now 0 0) × (m.1 ≡ fields_from numbers.now)) }
 {
     if !fit(numbers) {
-        return false;
+        return None;
     }
     let fields = fitting_fields(numbers);
     let from = ROWS_FIRST + 2 * record_read::rows_of_kind(fields.kind, n);
-    if !zero_from(numbers, from) {
-        return false;
+    if !is_zero(&numbers[from..]) {
+        return None;
     }
-    record_read::is_known(fields)
+    if !record_read::is_known(fields) {
+        return None;
+    }
+    Some((numbers[0] as u16, fields))
 }

@@ -6,12 +6,12 @@ mod put;
 mod rows;
 mod words;
 
-ghost use Rattle.std.specs.Prelude.{◌≡◌, cond, length};
+ghost use Rattle.std.specs.Prelude.{◌≡◌, cond};
 ghost use Rattle.record_read.specs.Readable.{readable};
-ghost use Rattle.record_words.specs.Numbers.{number_count, record_numbers};
+ghost use Rattle.record_words.specs.Numbers.{record_numbers};
 ghost use Rattle.record_words.specs.Records.{bytes_written, may_read, may_write, numbers_read};
 
-use fields::{fields_in, is_stated};
+use fields::stated;
 use put::put;
 use record::{SIZE, layout};
 use rows::rows_in;
@@ -21,8 +21,7 @@ pub use words::reads_back;
 // The numbers of a record that is readable in a group of `n`: its own fields and rows as they stand. If it is no message it
 // gives false and no number has changed.
 #[tactic(auto, unfolding(record::specs::Layout::next_of))]
-fn read_numbers(r: &[u8], n: usize, numbers: &mut [u64]) -> bool
-    requires { length numbers.old ≡ number_count }
+fn read_numbers(r: &[u8], n: usize, numbers: &mut [u64; COUNT]) -> bool
     ensures { (result ≡ readable n r.now) × (numbers.new ≡ cond (readable n r.now) (record_numbers n r.now) numbers.old) }
 {
     if !record_read::zero_after_rows(r, n) {
@@ -32,8 +31,7 @@ fn read_numbers(r: &[u8], n: usize, numbers: &mut [u64]) -> bool
     if !record_read::is_known(fields) {
         return false;
     }
-    let next = endian::read_u16(r, layout::NEXT_AT) as u64;
-    put(numbers, next, fields, r);
+    put(numbers, endian::read(r, layout::NEXT_AT), fields, r);
     true
 }
 
@@ -43,16 +41,13 @@ fn read_numbers(r: &[u8], n: usize, numbers: &mut [u64]) -> bool
 pub fn read_record(bytes: &[u8], record: u64, n: u64, numbers: &mut [u64]) -> bool
     ensures { (result ≡ may_read bytes.now «record» n numbers.old) × (numbers.new ≡ numbers_read bytes.now «record» n numbers.old) }
 {
-    if numbers.len() != COUNT {
+    let Some(numbers) = numbers.as_mut_array() else {
         return false;
-    }
-    let i = record as usize;
-    let count = bytes.len() / SIZE;
-    if count <= i {
+    };
+    let Some(r) = layout::record_at(bytes, record as usize) else {
         return false;
-    }
-    let from = i * SIZE;
-    read_numbers(&bytes[from..from + SIZE], n as usize, numbers)
+    };
+    read_numbers(r, n as usize, numbers)
 }
 
 // Record `record` of the bytes becomes what the numbers say in a group of `n`, in the same order. Where the record is
@@ -61,17 +56,15 @@ pub fn read_record(bytes: &[u8], record: u64, n: u64, numbers: &mut [u64]) -> bo
 pub fn write_record(bytes: &mut [u8], record: u64, n: u64, numbers: &[u64]) -> bool
     ensures { (result ≡ may_write bytes.old «record» n numbers.now) × (bytes.new ≡ bytes_written bytes.old «record» n numbers.now) }
 {
-    let i = record as usize;
-    if bytes.len() / SIZE <= i {
+    let Some(a) = layout::start_of(bytes.len(), record as usize) else {
         return false;
-    }
-    if !is_stated(numbers, n as usize) {
+    };
+    let Ok(numbers) = <&[u64; COUNT]>::try_from(numbers) else {
         return false;
-    }
-    let next = numbers[0] as u16;
-    let fields = fields_in(numbers);
-    let rows = rows_in(numbers);
-    let a = i * SIZE;
-    record_write::write_record(&mut bytes[a..a + SIZE], next, fields, rows);
+    };
+    let Some((next, fields)) = stated(numbers, n as usize) else {
+        return false;
+    };
+    record_write::write_record(&mut bytes[a..a + SIZE], next, fields, rows_in(numbers));
     true
 }

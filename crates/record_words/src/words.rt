@@ -2,23 +2,11 @@
 // are read back. The code is in modules `put`, `rows` and `fields`.
 ghost use Rattle.record_words.specs.ReadBack.{NumbersReadBack};
 
-use message::Envelope;
-
 // The numbers of a record: nine, and two for each row.
 pub const COUNT: usize = ROWS_FIRST + 2 * item::MAX_NODES;
 
 // Where the numbers of the rows begin.
 pub const ROWS_FIRST: usize = 9;
-
-// What numbers say.
-#[derive(Clone, Copy)]
-pub enum Stated {
-    // A message, with what comes after it on its chain.
-    Message { next: u16, envelope: Envelope },
-    // No record: too few or too many numbers, one that does not fit its field, an unknown kind, or one that is not 0
-    // and that a record of this message does not have.
-    Refused,
-}
 
 // Numbers that were written as a record are read back from it.
 pub fn reads_back()

@@ -20,12 +20,6 @@ pub const INBOX_SIZE: usize = 2;
 
 pub const INBOXES: usize = (record::SIZE - INBOXES_AT) / INBOX_SIZE;
 
-fn wide(x: u8) -> usize
-    ensures { result ≡ x }
-{
-    x as usize
-}
-
 // The first free record, 0 if there is none.
 #[tactic(auto, unfolding(store::specs::Head::first_free))]
 pub fn first_free(s: &[u8]) -> usize
@@ -39,10 +33,10 @@ pub fn first_free(s: &[u8]) -> usize
 pub fn group_size(s: &[u8]) -> usize
     ensures { result ≡ group_size (records_of s.now) }
 {
-    if s.len() <= SIZE_AT {
+    let Some(n) = s.get(SIZE_AT) else {
         return 0;
-    }
-    wide(s[SIZE_AT])
+    };
+    usize::from(*n)
 }
 
 // The first record of node `k`'s inbox, 0 if it is empty.
@@ -56,14 +50,21 @@ pub fn first_of(s: &[u8], k: usize) -> usize
     usize::from(endian::read::<u16>(s, INBOXES_AT + k * INBOX_SIZE))
 }
 
-// `i` modulo 65,536 becomes the first free record.
-pub fn set_first_free(s: &mut [u8], i: usize)
-    ensures { s.new ≡ with_record s.old 0 (with_number 2 (record_of s.old 0) free_at i) }
+// `i` modulo 65,536 becomes the number of the head in the two bytes from `at`.
+fn set_number(s: &mut [u8], at: usize, i: usize)
+    ensures { s.new ≡ with_record s.old 0 (with_number 2 (record_of s.old 0) at i) }
 {
     if s.len() < record::SIZE {
         return;
     }
-    endian::write(&mut s[0..record::SIZE], FREE_AT, (i % 65536) as u16);
+    endian::write(&mut s[0..record::SIZE], at, (i % 65536) as u16);
+}
+
+// `i` modulo 65,536 becomes the first free record.
+pub fn set_first_free(s: &mut [u8], i: usize)
+    ensures { s.new ≡ with_record s.old 0 (with_number 2 (record_of s.old 0) free_at i) }
+{
+    set_number(s, FREE_AT, i);
 }
 
 // `i` modulo 65,536 becomes the first record of node `k`'s inbox.
@@ -71,14 +72,10 @@ pub fn set_first_free(s: &mut [u8], i: usize)
 pub fn set_first_of(s: &mut [u8], k: usize, i: usize)
     ensures { s.new ≡ with_record s.old 0 (with_number 2 (record_of s.old 0) (inbox_at k) i) }
 {
-    if s.len() < record::SIZE {
-        return;
-    }
     if INBOXES <= k {
         return;
     }
-    let at = INBOXES_AT + k * INBOX_SIZE;
-    endian::write(&mut s[0..record::SIZE], at, (i % 65536) as u16);
+    set_number(s, INBOXES_AT + k * INBOX_SIZE, i);
 }
 
 // `n` modulo 256 becomes the size of the group.

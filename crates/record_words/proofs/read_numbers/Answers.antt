@@ -1,4 +1,5 @@
 -- `record_words::read_numbers` meets its contract: no number changes where the record is no message, else `numbers_straight`.
+use native.Mathlib.Omega.{arith}
 use mathlib.Core.Path.{sym, ap, ◌∙◌}
 use mathlib.Core.Bool.{Bool, cond}
 use Rattle.record.specs.Kind.{message_of}
@@ -31,5 +32,5 @@ returns c =
     let says = readable_known _ _ z ∙ sym (ap (λ (f : Fields). is_known (message_of f)) c.read_fields-fields.ensures) in
     let q = says ∙ (sym c.is_known.ensures ∙ c.if-not-is_known.false) in
     let f = c.read_fields-fields in
-    let straight = numbers_straight c.args.n r ns _ f.result c.requires q c.read_u16-next.ensures f.ensures in
+    let straight = numbers_straight c.args.n r ns _ f.result (omega arith) q c.read.ensures f.ensures in
     (sym q, c.put.ensures ∙ straight ∙ sym (ap (λ (t : Bool). cond t (record_numbers c.args.n r) ns) q))

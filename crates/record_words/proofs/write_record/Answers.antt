@@ -1,43 +1,25 @@
 -- `record_words::write_record` meets its contract: each way out by one law of `RecordLaws`.
-use Prim.Native.Nat.{◌+◌, ◌-◌, ◌*◌}
 use native.Mathlib.Omega.{arith}
-use mathlib.Core.Path.{refl, ap, ◌∙◌, sym}
-use borrow.Rule.Slice.PartMut.{put_mid}
-use mathlib.Core.Bool.{Bool, cond}
-use mathlib.Core.List.{[]}
-use Rattle.record_words.specs.Numbers.{fields_from}
-use Rattle.record.specs.Layout.{record_size}
-use Rattle.record_words.proofs.NumberLaws.{fits}
-use Rattle.record_words.proofs.ReadBackLaws.{stated_fits}
+use Rattle.record_words.proofs.NumberLaws.{stated_short}
 use Rattle.record_words.proofs.RecordLaws.{write_none, write_refused, write_stated}
 use Rattle.record_words.proofs.write_record.Goals as goal
 
-pub returns-then-bytes-i : goal.returns-then-bytes-i
-returns-then-bytes-i c =
+pub returns-in_default : goal.returns-in_default
+returns-in_default c = let a = c.args in let h = c.in_default.ensures in write_none a.bytes.now a.«record» a.n a.numbers.now (omega arith)
+
+pub returns-in_default-try_from : goal.returns-in_default-try_from
+returns-in_default-try_from c =
     let a = c.args in
-    write_none a.bytes.now a.«record» a.n a.numbers.now (omega arith)
+    write_refused a.bytes.now a.«record» a.n a.numbers.now c.in-Some.ensures.0 (stated_short a.n a.numbers.now c.in_default-try_from.ensures.1)
 
-pub returns-then-not-is_stated : goal.returns-then-not-is_stated
-returns-then-not-is_stated c =
+pub returns-in_default-stated : goal.returns-in_default-stated
+returns-in_default-stated c =
     let a = c.args in
-    write_refused a.bytes.now a.«record» a.n a.numbers.now (omega (arith, c.if-bytes-i.false)) (sym c.is_stated.ensures ∙ c.if-not-is_stated.true)
-
-pub bounds-numbers-0 : goal.bounds-numbers-0
-bounds-numbers-0 c =
-    let f = stated_fits _ _ (sym c.is_stated.ensures ∙ c.if-not-is_stated.false) in
-    omega (arith, f.long)
-
-pub overflow_cast-next : goal.overflow_cast-next
-overflow_cast-next c =
-    let f = stated_fits _ _ (sym c.is_stated.ensures ∙ c.if-not-is_stated.false) in
-    omega (arith, f.next)
+    rw (← c.in-Ok.ensures.1.same) (write_refused a.bytes.now a.«record» a.n c.in-Ok.numbers.now c.in-Some.ensures.0 c.in_default-stated.ensures)
 
 pub returns : goal.returns
 returns c =
     let a = c.args in
-    let ns = a.numbers.now in
-    let says = sym c.is_stated.ensures ∙ c.if-not-is_stated.false in
-    let f = c.fields_in-fields in
-    let law =
-    write_stated a.bytes.now a.«record» a.n ns _ f.result _ (omega (arith, c.if-bytes-i.false)) says refl (f.ensures ∙ ap (λ (b : Bool). cond b (fields_from ns) (fields_from [])) (fits ns (stated_fits a.n ns says))) c.rows_in-rows.ensures in
-    (law.0, ap (put_mid (a.«record» * record_size) (a.«record» * record_size + record_size - a.«record» * record_size) a.bytes.now) c.write_record.ensures ∙ law.1)
+    let m = c.in-Some-stated.ensures in
+    rw (← c.in-Ok.ensures.1.same)
+    (write_stated a.bytes.now a.«record» a.n c.in-Ok.numbers.now _ _ _ _ c.in-Some.a c.in-Some.ensures m.0 m.1 m.2 c.rows_in.ensures c.write_record.ensures)

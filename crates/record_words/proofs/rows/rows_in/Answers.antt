@@ -9,10 +9,10 @@ pub loop-j-preserved : goal.loop-j-preserved
 loop-j-preserved c =
     let l = c.loop-j in
     let ns = c.args.numbers.now in
-    row_read (rows_from ns) (length_rows_from ns) l.j l.items l.invariant (omega arith) (c.item_in.ensures ∙ sym (row_from ns l.j (omega arith)))
+    row_read (rows_from ns) (length_rows_from ns) l.j l.row-items l.invariant (omega arith) (c.item_in.ensures ∙ sym (row_from ns l.j (omega arith)))
 
 pub returns : goal.returns
 returns c =
     let l = c.loop-j in
     let ns = c.args.numbers.now in
-    rows_read (rows_from ns) (length_rows_from ns) l.j l.items l.invariant (omega arith)
+    rows_read (rows_from ns) (length_rows_from ns) l.j l.row-items l.invariant (omega arith)

@@ -7,4 +7,4 @@ use Rattle.store_access.proofs.head.first_free.Goals as goal
 
 pub returns : goal.returns
 unfolding first_free
-returns c = c.read_u16.ensures ∙ head_number c.args.s.now 0 (omega arith)
+returns c = c.from.ensures ∙ c.read.ensures ∙ head_number c.args.s.now 0 (omega arith)

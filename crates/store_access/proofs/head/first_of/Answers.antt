@@ -12,4 +12,4 @@ returns-then-k-ge-INBOXES c = sym (head_none c.args.s.now (4 + c.args.k * 2) (om
 
 pub returns : goal.returns
 unfolding first_of inbox_at
-returns c = let a = c.args in c.read_u16.ensures ∙ head_number a.s.now (4 + a.k * 2) (omega arith)
+returns c = let a = c.args in c.from.ensures ∙ c.read.ensures ∙ head_number a.s.now (4 + a.k * 2) (omega arith)
