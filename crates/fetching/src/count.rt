@@ -44,7 +44,7 @@ fn with_table(
 ) -> Node
     ensures { result ≡ with_table node sender incarnation items }
 {
-    let merged = merge_rows(none_counted(&node), node.rows, items);
+    let merged = merge_rows(none_counted(&node), node.rows, &items);
     with_counted(with_rows(node, merged), sender, incarnation)
 }
 

@@ -1,8 +1,9 @@
 // The merge of fetched tables: what a node that is Fetching keeps of the tables it counts, row by row.
-ghost use Rattle.std.specs.Prelude.{◌≡◌};
+ghost use Rattle.std.specs.Prelude.{◌≡◌, ◌<◌, MatchOption};
+ghost use Rattle.item.specs.Maxima.{max_nodes};
 ghost use Rattle.protocol.specs.Merge.{merge_row, merge_rows, lowest_marked};
 
-use item::{Attempt, Incarnation, Item, Row};
+use item::{Item, Row};
 use protocol::Node;
 
 // A row after one more table with this item for it. The first table's item is taken whatever the row is; later a
@@ -11,66 +12,39 @@ use protocol::Node;
 pub fn merge_row(first: bool, row: Row, item: Item) -> Row
     ensures { result ≡ merge_row first row item }
 {
-    if first {
+    if first || row.item.ranks_below(item) {
         return Row {
-            item: item,
-            incarnation: Incarnation(0),
-            attempt: Attempt(0),
-            marked: false,
+            item,
+            ..Row::zero()
         };
     }
-    if row.item.ranks_below(item) {
-        return Row {
-            item: item,
-            incarnation: Incarnation(0),
-            attempt: Attempt(0),
-            marked: false, // and the mark is cleared
-        };
-    }
-    if item.ranks_below(row.item) {
+    if item.ranks_below(row.item) || item == row.item {
         return row;
     }
-    if item == row.item {
-        return row;
+    Row {
+        marked: true,
+        ..row
     }
-    let mut next = row;
-    next.marked = true;
-    next
 }
 
 // Every row after one more table, whose items are in the order of the rows.
 #[tactic(auto, unfolding(crate::proofs::Merged::merged_to))]
 pub fn merge_rows(
     first: bool,
-    rows: [Row; Node::MAX_ROWS],
-    items: [Item; Node::MAX_ROWS],
+    mut rows: [Row; Node::MAX_ROWS],
+    items: &[Item; Node::MAX_ROWS],
 ) -> [Row; Node::MAX_ROWS]
-    ensures { result ≡ merge_rows first rows items }
+    ensures { result ≡ merge_rows first rows items.now }
 {
-    let mut next = rows;
-    let mut i: usize = 0;
-    while i < Node::MAX_ROWS {
-        let row = next[i];
-        let item = items[i];
-        next[i] = merge_row(first, row, item);
-        i += 1;
+    for (i, item) in items.iter().enumerate() {
+        rows[i] = merge_row(first, rows[i], *item);
     }
-    next
+    rows
 }
 
-// The lowest marked row, or the number of rows where none is marked.
-pub fn lowest_marked(rows: [Row; Node::MAX_ROWS]) -> usize
-    ensures { result ≡ lowest_marked rows }
+// The number of the lowest marked row, if one is marked.
+pub fn lowest_marked(rows: &[Row; Node::MAX_ROWS]) -> Option<usize>
+    ensures { MatchOption result (lowest_marked rows.now ≡ max_nodes) (λ i. (i < max_nodes) × (lowest_marked rows.now ≡ i)) }
 {
-    let mut k: usize = 0;
-    let found = loop {
-        if Node::MAX_ROWS <= k {
-            break k;
-        }
-        if rows[k].marked {
-            break k;
-        }
-        k += 1;
-    };
-    found
+    rows.iter().position(|row| row.marked)
 }

@@ -1,7 +1,6 @@
 // What a node that has counted one more table does: at f + 1 of them it stops, or it returns and writes its own item back.
 ghost use Rattle.std.specs.Prelude.{◌≡◌};
-ghost use Rattle.protocol.specs.Fetching.{has_conflict, written_back, node_recover, table_counted};
-ghost use Rattle.protocol.specs.Fetching as definition;
+ghost use Rattle.protocol.specs.Fetching.{written_back, node_recover, table_counted};
 
 use crate::merge::lowest_marked;
 use item::Attempt;
@@ -20,36 +19,19 @@ pub fn table_counted(node: Node) -> Step
     node_recover(node)
 }
 
-// What a node that counts f + 1 tables does: it stops, or it sends the item that it writes back to every other node.
-#[tactic(auto, unfolding(protocol::specs::Fetching::node_recover))]
+// What a node that counts f + 1 tables does: where some row's greatest index has come with two tags the return ends at the
+// lowest such row, and the node is Down; otherwise it sends the item that it writes back to every other node.
+#[tactic(auto, unfolding(protocol::specs::Fetching::node_recover, protocol::specs::Fetching::has_conflict, protocol::specs::Fetching::stopped))]
 fn node_recover(node: Node) -> Step
     ensures { result ≡ node_recover node }
 {
-    if has_conflict(node) {
-        return stopped(node);
-    }
-    send_store(written_back(node))
-}
-
-// Whether some row's greatest index has come with two tags.
-#[tactic(auto, unfolding(protocol::specs::Fetching::has_conflict))]
-fn has_conflict(node: Node) -> bool
-    ensures { result ≡ has_conflict node }
-{
-    let rows = node.rows;
-    lowest_marked(rows) < Node::MAX_ROWS
-}
-
-// The return ends at the lowest marked row, and the node is Down.
-#[tactic(auto, unfolding(protocol::specs::Fetching::stopped))]
-fn stopped(node: Node) -> Step
-    ensures { result ≡ definition.stopped node }
-{
-    let rows = node.rows;
-    Step {
-        answer: Answer::Stopped(lowest_marked(rows)),
-        node: crashed(node),
-        sends: Sends::Nothing,
+    match lowest_marked(&node.rows) {
+        Some(row) => Step {
+            answer: Answer::Stopped(row),
+            node: crashed(node),
+            sends: Sends::Nothing,
+        },
+        None => send_store(written_back(node)),
     }
 }
 

@@ -1,57 +1,53 @@
--- A test of every element of a list of max_nodes, as two kinds of loop make it: one that leaves at the first element that
--- fails, and one that joins all tests.
-use Prim.Native.Nat.{ℕ, zero, suc, ◌+◌, ◌<◌, ◌≤◌}
-use mathlib.Core.Path.{◌≡◌, sym, ap, ◌∙◌}
-use mathlib.Core.Bool.{Bool, true, false, not, ◌&&◌, and_assoc, and-true}
+-- A test of every element of a list, with its place or joined into one.
+use Prim.Native.Nat.{ℕ, suc}
+use mathlib.Core.Path.{◌≡◌, refl, ap, sym, ◌∙◌}
+use mathlib.Core.Bool.{Bool, true, false, ◌&&◌, and_assoc, and-true}
 use mathlib.Core.List.{List, [], ◌∷◌}
-use lib.ListN.{length, get_or, take, drop, drop_of_length-le}
-use lib.Seq.{drop-cons, take_all}
 use native.Mathlib.Numerals.{add-one}
-use native.Mathlib.Nat.{add-zero, le_of_suc-le-suc, not-suc-le-zero}
-use native.Mathlib.Omega.{arith}
-use Rattle.item.specs.Maxima.{max_nodes}
-use Rattle.item.specs.Tests.{refuted, granted}
+use lib.Bits.{bit_or}
+use lib.Dec.{eqb}
+use Rattle.std.specs.List.{enumerate_from, list_all, fold}
+use Rattle.endian.proofs.ZeroLaws.{or_zero}
+use Rattle.item.specs.Counter.{same_incarnation, same_attempt}
+use Rattle.item.specs.Item.{tags_agree, same_item}
+use Rattle.item.specs.declared.Row.{Row}
 use Rattle.protocol.specs.Sound.{every_from}
+use Rattle.node_sound.specs.Rest.{numbers_zero, row_bits}
 
--- a loop that leaves at the first that fails, at place k: the elements from k on tell the answer
-abbrev pub RestTells : {A : Type 0} → (ℕ → A → Bool) → List A → ℕ → Type 0
-RestTells test xs k = (k ≤ max_nodes) × (length xs ≡ max_nodes) × (every_from test 0 xs ≡ every_from test k (drop k xs))
+-- each with its place, counted from k
+pub every_enumerated : {A : Type 0} (test : ℕ → A → Bool) (k : ℕ) (xs : List A)
+    → list_all (λ (p : ℕ × A). test p.0 p.1) (enumerate_from k xs) ≡ every_from test k xs
+unfolding every_from
+every_enumerated test k [] = refl
+every_enumerated test k (x ∷ xs) = rw add-one (ap (λ (t : Bool). test k x && t) (every_enumerated test (suc k) xs))
 
-module _ {A : Type 0} (test : ℕ → A → Bool) (xs : List A) (d : A) (k : ℕ) (tells : RestTells test xs k) where
-  -- r is the answer of the test at k
-  pub every_fails : {r : Bool} → k < max_nodes → r ≡ test k (get_or xs k d) → not r ≡ true → false ≡ every_from test 0 xs
-  unfolding every_from
-  every_fails h e n = rw (tells.2, drop-cons xs k d (omega arith), refuted e n)
+-- the tests joined, from t on
+joined_from : {A : Type 0} (test : A → Bool) (t : Bool) (xs : List A) → fold (λ all x. all && test x) t xs ≡ t && list_all test xs
+joined_from test true [] = refl
+joined_from test false [] = refl
+joined_from test t (x ∷ xs) = joined_from test (t && test x) xs ∙ and_assoc t (test x) (list_all test xs)
 
-  pub every_passes : {r : Bool} → k < max_nodes → r ≡ test k (get_or xs k d) → not r ≡ false → RestTells test xs (k + 1)
-  unfolding every_from
-  every_passes h e n = (omega arith, tells.1, tells.2 ∙ rw (add-one, drop-cons xs k d (omega arith), granted e n))
+pub joined_tests : {A : Type 0} (test : A → Bool) (xs : List A) → fold (λ all x. all && test x) true xs ≡ list_all test xs
+joined_tests test xs = joined_from test true xs
 
-  pub every_passed : max_nodes ≤ k → true ≡ every_from test 0 xs
-  unfolding every_from
-  every_passed h = rw (tells.2, drop_of_length-le xs {i = k} (omega arith))
+-- or is 0 exactly if both are (`or_zero`), so the four numbers of a row joined are 0 exactly if each is
+bits_zero : (row : Row) → eqb (row_bits row) 0 ≡ numbers_zero row
+unfolding numbers_zero same_item tags_agree same_incarnation same_attempt
+bits_zero row =
+    let index = row.item.index.0 in
+    let tag = row.item.tag.0 in
+    let incarnation = row.incarnation.0 in
+    let attempt = row.attempt.0 in
+    or_zero (bit_or (bit_or index tag) incarnation) attempt
+    ∙ ap (λ (t : Bool). t && eqb attempt 0) (or_zero (bit_or index tag) incarnation ∙ ap (λ (t : Bool). t && eqb incarnation 0) (or_zero index tag))
+    ∙ and_assoc (eqb index 0 && eqb tag 0) (eqb incarnation 0) (eqb attempt 0)
 
--- a loop that joins all tests, at place k: all is the answer for the elements before k
-abbrev pub Joined : {A : Type 0} → (ℕ → A → Bool) → List A → Bool → ℕ → Type 0
-Joined test xs all k = (k ≤ max_nodes) × (length xs ≡ max_nodes) × (all ≡ every_from test 0 (take k xs))
+-- and so are those of all rows, joined with b
+bits_from : (b : ℕ) (rows : List Row) → eqb (fold (λ joined row. bit_or joined (row_bits row)) b rows) 0 ≡ eqb b 0 && list_all numbers_zero rows
+bits_from b [] = sym (and-true (eqb b 0))
+bits_from b (row ∷ rows) =
+    bits_from (bit_or b (row_bits row)) rows
+    ∙ rw (or_zero b (row_bits row), bits_zero row) (and_assoc (eqb b 0) (numbers_zero row) (list_all numbers_zero rows))
 
-module _ {A : Type 0} (test : ℕ → A → Bool) where
-  every_next : (k : ℕ) (xs : List A) (d : A) (i : ℕ) → i < length xs
-      → every_from test k (take i xs) && test (k + i) (get_or xs i d) ≡ every_from test k (take (suc i) xs)
-  unfolding every_from
-  every_next k [] d i h = absurd (not-suc-le-zero h)
-  every_next k (x ∷ xs) d zero h = rw (add-zero k) (sym (and-true (test k x)))
-  every_next k (x ∷ xs) d (suc i) h =
-      let shift : k + suc i ≡ suc k + i = omega arith in
-      and_assoc (test k x) (every_from test (suc k) (take i xs)) (test (k + suc i) (get_or xs i d))
-      ∙ rw (shift, every_next (suc k) xs d i (le_of_suc-le-suc h))
-
-  module _ (xs : List A) (all : Bool) (k : ℕ) (joined : Joined test xs all k) where
-    pub joined_more : (d : A) → k < max_nodes → Joined test xs (all && test k (get_or xs k d)) (k + 1)
-    joined_more d h =
-        let shift : 0 + k ≡ k = omega arith in
-        let next = every_next 0 xs d k (omega arith) in
-        (omega arith, joined.1, rw (joined.2, add-one) (rw shift at next))
-
-    pub joined_all : max_nodes ≤ k → all ≡ every_from test 0 xs
-    joined_all h = joined.2 ∙ ap (every_from test 0) (take_all k xs (omega arith))
+pub joined_bits : (rows : List Row) → eqb (fold (λ joined row. bit_or joined (row_bits row)) 0 rows) 0 ≡ list_all numbers_zero rows
+joined_bits rows = bits_from 0 rows

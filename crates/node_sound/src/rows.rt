@@ -1,7 +1,6 @@
 // Soundness of a node's rows: rows from n on are zero, and the others hold nothing but what the node's phase uses.
 ghost use Rattle.std.specs.Prelude.{◌≡◌};
-ghost use Rattle.protocol.specs.declared.Phase.TheVariants.{Fetching};
-ghost use Rattle.protocol.specs.Sound.{every_from, row_use, row_fits, row_sound, rows_sound};
+ghost use Rattle.protocol.specs.Sound.{row_use, row_fits, row_sound, rows_sound};
 
 use item::{Attempt, Incarnation, Row};
 use node::count_peers;
@@ -9,35 +8,20 @@ use protocol::{Node, Phase, RowUse};
 
 // Whether a node of a group of n has nothing in its rows but what its phase uses.
 #[tactic(auto, unfolding(protocol::specs::Sound::rows_sound))]
-pub fn rows_sound(n: usize, node: Node) -> bool
-    ensures { result ≡ rows_sound n node }
+pub fn rows_sound(n: usize, node: &Node) -> bool
+    ensures { result ≡ rows_sound n node.now }
 {
-    let phase = node.phase;
-    let counted = node.counted;
-    let rows = node.rows;
-    let held = row_use(phase, count_peers(counted));
-    every_row(held, n, rows)
-}
-
-// Whether every row fits, of which a node of a group of n uses this much.
-fn every_row(held: RowUse, n: usize, rows: [Row; Node::MAX_ROWS]) -> bool
-    ensures { result ≡ every_from (row_sound held n) 0 rows }
-{
-    let mut k: usize = 0;
-    while k < Node::MAX_ROWS {
-        let row = rows[k];
-        if !row_sound(held, n, k, row) {
-            return false;
-        }
-        k += 1;
-    }
-    true
+    let held = row_use(node.phase, count_peers(&node.counted));
+    node.rows
+        .iter()
+        .enumerate()
+        .all(|(k, row)| row_sound(held, n, k, row))
 }
 
 // Whether row k fits in a group of n, where rows from n on are unused.
 #[tactic(auto, unfolding(protocol::specs::Sound::row_sound))]
-fn row_sound(held: RowUse, n: usize, k: usize, row: Row) -> bool
-    ensures { result ≡ row_sound held n k row }
+fn row_sound(held: RowUse, n: usize, k: usize, row: &Row) -> bool
+    ensures { result ≡ row_sound held n k row.now }
 {
     if k < n {
         return row_fits(held, row);
@@ -46,18 +30,13 @@ fn row_sound(held: RowUse, n: usize, k: usize, row: Row) -> bool
 }
 
 // Whether a row has nothing but what is used of it.
-#[tactic(auto, unfolding(protocol::specs::Sound::row_fits))]
-fn row_fits(held: RowUse, row: Row) -> bool
-    ensures { result ≡ row_fits held row }
+#[tactic(auto, unfolding(protocol::specs::Sound::row_fits, item::specs::Row::same_row, item::specs::Item::same_item, item::specs::Item::tags_agree, item::specs::Counter::same_incarnation, item::specs::Counter::same_attempt))]
+fn row_fits(held: RowUse, row: &Row) -> bool
+    ensures { result ≡ row_fits held row.now }
 {
     match held {
-        RowUse::Zero => row.same(Row::zero()),
-        RowUse::Fetched => {
-            if !row.incarnation.same(Incarnation(0)) {
-                return false;
-            }
-            row.attempt.same(Attempt(0))
-        }
+        RowUse::Zero => *row == Row::zero(),
+        RowUse::Fetched => row.incarnation == Incarnation(0) && row.attempt == Attempt(0),
         RowUse::Stored => !row.marked,
     }
 }
@@ -69,19 +48,8 @@ fn row_use(phase: Phase, counted: usize) -> RowUse
 {
     match phase {
         Phase::Down => RowUse::Zero,
-        Phase::Fetching => fetching_use(counted),
-        Phase::Returning(_) => RowUse::Stored,
-        Phase::Up(_) => RowUse::Stored,
+        Phase::Fetching if counted == 0 => RowUse::Zero,
+        Phase::Fetching => RowUse::Fetched,
+        Phase::Returning(_) | Phase::Up(_) => RowUse::Stored,
     }
-}
-
-// What a node Fetching uses of its rows when it counts so many tables.
-#[tactic(auto, unfolding(protocol::specs::Sound::row_use))]
-fn fetching_use(counted: usize) -> RowUse
-    ensures { result ≡ row_use Fetching counted }
-{
-    if counted == 0 {
-        return RowUse::Zero;
-    }
-    RowUse::Fetched
 }

@@ -1,26 +1,17 @@
-use native.Mathlib.Omega.{arith}
-use borrow.Author.Rules.{rules}
+-- `fetching::merge::lowest_marked` meets its contract: it is the position of the first marked row.
+use lib.ListN.{length}
+use mathlib.Core.Path.{◌≡◌}
+use Rattle.std.proofs.Common.{rules, tests}
+use Rattle.std.proofs.lemmas.Iterator.{YieldsList-from_slice}
+use Rattle.std.proofs.lemmas.Iterator.Search.{position_from_yields_List}
+use Rattle.item.specs.Maxima.{max_nodes}
 use Rattle.node.proofs.Array.{length_mapped}
-use Rattle.fetching.proofs.Marks.{lowest_here, lowest_next, lowest_none}
+use Rattle.fetching.proofs.Marks.{marked, position_marked}
 use Rattle.fetching.proofs.merge.lowest_marked.Goals as goal
 
-pub loop-k-init : goal.loop-k-init
-loop-k-init c = (omega arith, search length_mapped, omega arith)
-
-pub loop-k-preserved : goal.loop-k-preserved
-loop-k-preserved c =
-    let rows = c.args.rows in
-    let k = c.loop-k.k in
-    (omega arith, search rules, omega (arith, lowest_next rows k (omega arith) c.if-rows-k.false))
-
-pub returns-then-k-ge-MAX_ROWS : goal.returns-then-k-ge-MAX_ROWS
-returns-then-k-ge-MAX_ROWS c =
-    let rows = c.args.rows in
-    let k = c.loop-k.k in
-    omega (arith, lowest_none rows k (omega arith))
-
-pub returns-then-rows-k : goal.returns-then-rows-k
-returns-then-rows-k c =
-    let rows = c.args.rows in
-    let k = c.loop-k.k in
-    omega (arith, lowest_here rows k (omega arith) c.if-rows-k.true)
+pub returns : goal.returns
+returns c =
+    let rows = c.args.rows.now in
+    let long : length rows ≡ max_nodes = search length_mapped in
+    position_marked rows c.position.result long
+    (position_from_yields_List marked _ _ c.position.result c.position.ensures.ran (YieldsList-from_slice rows (cc)) (λ x b q k. search (rules, tests)))

@@ -1,20 +1,15 @@
-use mathlib.Core.Path.{refl}
-use native.Mathlib.Omega.{arith}
-use Rattle.protocol.specs.Node.{no_peer}
-use Rattle.protocol.specs.Sound.{every_from}
-use Rattle.node.proofs.Array.{length_mapped}
-use Rattle.node_sound.proofs.Every.{joined_more, joined_all}
+-- `node_sound::fast::no_peers` meets its contract: the tests are joined.
+use mathlib.Core.Bool.{true, ◌&&◌}
+use mathlib.Core.Path.{◌∙◌}
+use Rattle.std.proofs.Common.{rules, tests}
+use Rattle.std.proofs.lemmas.Iterator.{YieldsList-from_slice}
+use Rattle.std.proofs.lemmas.Iterator.Consumers.{fold_from_yields_List}
+use Rattle.node_sound.proofs.Every.{joined_tests}
 use Rattle.node_sound.specs.Rest.{absent}
 use Rattle.node_sound.proofs.fast.no_peers.Goals as goal
 
-pub loop-k-init : goal.loop-k-init
-unfolding every_from
-loop-k-init c = (omega arith, search length_mapped, refl)
-
-pub loop-k-preserved : goal.loop-k-preserved
-loop-k-preserved c =
-    let l = c.loop-k in
-    rw c.is_absent-all.ensures (joined_more absent c.args.peers l.all l.k l.invariant no_peer (omega arith))
-
 pub returns : goal.returns
-returns c = let l = c.loop-k in joined_all absent c.args.peers l.all l.k l.invariant (omega arith)
+returns c =
+    let peers = c.args.peers.now in
+    fold_from_yields_List _ (λ all peer. all && absent peer) true _ c.fold.ensures.ran (YieldsList-from_slice peers (cc)) (λ a x b q k. search (rules, tests))
+    ∙ joined_tests absent peers

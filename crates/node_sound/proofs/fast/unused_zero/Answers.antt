@@ -1,28 +1,9 @@
-use lib.Dec.{eqb}
-use mathlib.Core.Path.{refl}
+-- `node_sound::fast::unused_zero` meets its contract: in a group that has a node for each row no row is unused.
 use native.Mathlib.Omega.{arith}
-use Rattle.endian.proofs.ZeroLaws.{or_zero}
-use Rattle.item.specs.Row.{zero_row}
-use Rattle.protocol.specs.Sound.{every_from}
-use Rattle.node.proofs.Array.{length_mapped}
-use Rattle.node_sound.proofs.Every.{joined_more, joined_all}
-use Rattle.node_sound.specs.Rest.{unused_row_zero, unused_zero}
+use lib.ListN.{drop_of_length-le}
+use Rattle.node_sound.specs.Rest.{unused_zero}
 use Rattle.node_sound.proofs.fast.unused_zero.Goals as goal
 
-pub loop-k-init : goal.loop-k-init
-unfolding every_from
-loop-k-init c = (omega arith, search length_mapped, refl)
-
-pub loop-k-preserved : goal.loop-k-preserved
-loop-k-preserved c =
-    let l = c.loop-k in
-    let a = c.args in
-    rw (or_zero l.joined c.unused_bits-joined.result, c.unused_bits-joined.ensures)
-    (joined_more (unused_row_zero a.n) a.node.rows (eqb l.joined 0) l.k l.invariant zero_row (omega arith))
-
-pub returns : goal.returns
+pub returns-then-n-ge-MAX_ROWS : goal.returns-then-n-ge-MAX_ROWS
 unfolding unused_zero
-returns c =
-    let l = c.loop-k in
-    let a = c.args in
-    joined_all (unused_row_zero a.n) a.node.rows (eqb l.joined 0) l.k l.invariant (omega arith)
+returns-then-n-ge-MAX_ROWS c = rw (drop_of_length-le c.args.rows.now {i = c.args.n} (omega arith))
