@@ -3,7 +3,7 @@
 use Prim.Native.Nat.{ℕ, suc, ◌-◌, ◌≤◌, ◌<◌}
 use native.Mathlib.Omega.{arith}
 use mathlib.Core.Path.{◌≡◌, refl, sym, ap, ◌∙◌}
-use mathlib.Core.Bool.{Bool, true, false, cond, ◌&&◌}
+use mathlib.Core.Bool.{Bool, true, cond, ◌&&◌}
 use mathlib.Core.List.{List, [], ◌∷◌}
 use mathlib.Core.Logic.{◌≢◌}
 use lib.Dec.{eqb}
@@ -14,7 +14,7 @@ use Rattle.item.specs.Tests.{and_left, and_right}
 use Rattle.item.specs.declared.Item.{Item}
 use Rattle.message.specs.Rows.{held_rows}
 use Rattle.message.specs.declared.Envelope.{Envelope}
-use Rattle.message.specs.declared.Outgoing.{Outgoing}
+use Rattle.message.proofs.Counted.{count_none, count_some}
 use Rattle.record.specs.Layout.{rows_of}
 use Rattle.store.specs.Change.{put_in, put_each, count_outgoing, empty_records}
 use Rattle.store.specs.Head.{first_free, group_size}
@@ -131,27 +131,23 @@ module _ {n : ℕ} {rs : List (List ℕ)} {sent : List Packet} (H : Holds n rs s
 
 -- ---- several
 
--- those that are present, in their order, with the rows beside them
-unfoldable pub packets_put : ℕ → List Outgoing → List Item → List Packet → List Packet
+-- the messages in their order, with the rows beside them
+unfoldable pub packets_put : ℕ → List (Option Envelope) → List Item → List Packet → List Packet
 packets_put n [] rows sent = sent
-packets_put n (o ∷ os) rows sent = packets_put n os rows (cond o.present (packet n o.envelope rows ∷ sent) sent)
+packets_put n (None ∷ os) rows sent = packets_put n os rows sent
+packets_put n (Some e ∷ os) rows sent = packets_put n os rows (packet n e rows ∷ sent)
 
-unfoldable pub all_fit : ℕ → List Outgoing → List Item → Bool
+unfoldable pub all_fit : ℕ → List (Option Envelope) → List Item → Bool
 all_fit n [] rows = true
-all_fit n (o ∷ os) rows = cond o.present (fits n o.envelope rows) true && all_fit n os rows
+all_fit n (None ∷ os) rows = all_fit n os rows
+all_fit n (Some e ∷ os) rows = fits n e rows && all_fit n os rows
 
-pub holds_more : {n : ℕ} (os : List Outgoing) (rows : List Item) {rs : List (List ℕ)} {sent : List Packet} → Holds n rs sent
+pub holds_more : {n : ℕ} (os : List (Option Envelope)) (rows : List Item) {rs : List (List ℕ)} {sent : List Packet} → Holds n rs sent
     → all_fit n os rows ≡ true → count_outgoing os ≤ free_after sent → Holds n (put_each rs os rows) (packets_put n os rows sent)
 unfolding put_each packets_put all_fit count_outgoing
 holds_more [] rows H fit room = H
-holds_more {n} (o ∷ os) rows {rs} {sent} H fit room = step (λ rs' sent' H'. holds_more os rows H') o.present fit room
-  where
-    step : ((rs' : List (List ℕ)) (sent' : List Packet) → Holds n rs' sent' → all_fit n os rows ≡ true → count_outgoing os ≤ free_after sent'
-        → Holds n (put_each rs' os rows) (packets_put n os rows sent'))
-        → (p : Bool) → (cond p (fits n o.envelope rows) true && all_fit n os rows) ≡ true
-        → cond p (suc (count_outgoing os)) (count_outgoing os) ≤ free_after sent
-        → Holds n (put_each (cond p (put_in rs o.envelope rows) rs) os rows) (packets_put n os rows (cond p (packet n o.envelope rows ∷ sent) sent))
-    step others true f b =
-        let fit = fits n o.envelope rows in
-        others _ _ (holds_one_more H o.envelope rows (and_left fit _ f) (omega arith)) (and_right fit _ f) (omega arith)
-    step others false f b = others rs sent H f b
+holds_more (None ∷ os) rows H fit room = holds_more os rows H fit (omega (arith, count_none os))
+holds_more {n} (Some e ∷ os) rows H fit room =
+    let here = fits n e rows in
+    holds_more os rows (holds_one_more H e rows (and_left here _ fit) (omega (arith, count_some e os))) (and_right here _ fit)
+    (omega (arith, count_some e os))

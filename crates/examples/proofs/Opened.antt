@@ -7,11 +7,11 @@ use Rattle.record.specs.Kind.{kind_of, other_of, attempt_of, item_of, fields_of}
 use Rattle.store.specs.Change.{count_outgoing}
 use Rattle.protocol.specs.Answer.{refused, ok}
 use Rattle.protocol.specs.Deliver.{on_message, deliver_step}
-use Rattle.protocol.specs.Fetching.{on_fetch, none_counted, with_table, has_conflict, stopped, written_back, node_recover, table_counted, on_table}
+use Rattle.protocol.specs.Fetching.{on_fetch, none_counted, with_table, has_conflict, stopped, written_back, recovered, node_recover, table_counted, on_table}
 use Rattle.protocol.specs.Merge.{merge_row, merge_rows, lowest_marked}
 use Rattle.protocol.specs.Network.{packet_of, packets_of, network_after, fresh_network}
 use Rattle.protocol.specs.Node.{half, row_of, own_item, peer_of, count_peers, blank_node, crashed, started, storing_begun, with_row, with_counted, confirming_begun, write_ended, with_rows, fresh_node, row_items}
-use Rattle.protocol.specs.Outgoing.{goes_to, message_to, outgoing_to, outgoing_from, outgoing}
+use Rattle.protocol.specs.Outgoing.{message_to, outgoing_to, outgoing_from, outgoing}
 use Rattle.protocol.specs.Phase.{at_stage}
 use Rattle.protocol.specs.Sound.{every_from, row_use, row_fits, row_sound, peer_sound, stage_counts, phase_counts, attempt_fits, among_asked, counted_asked, rows_sound, peers_sound, sound_node}
 use Rattle.protocol.specs.Storing.{store_verdict, reply_store, on_store, own_write, is_counted, send_confirm, stored_counted, on_stored, stored_under, on_confirm, asked_under, end_answer, store_success, confirmed_counted, on_confirmed}
@@ -46,7 +46,7 @@ confirming = tt
 
 -- Fetch and Table
 unfoldable pub fetching : Unit {0}
-unfolding fields deliver_step on_message on_fetch on_table is_counted none_counted with_table with_rows with_counted merge_rows merge_row has_conflict lowest_marked stopped crashed node_recover table_counted written_back storing_begun send_store
+unfolding fields deliver_step on_message on_fetch on_table is_counted none_counted with_table with_rows with_counted merge_rows merge_row has_conflict lowest_marked stopped crashed recovered node_recover table_counted written_back storing_begun send_store
 fetching = tt
 
 -- ---- table and messages
@@ -57,7 +57,7 @@ table_soundness = tt
 
 -- what is sent, with the rows beside it, and the network after it
 unfoldable pub sending : Unit {0}
-unfolding fields outgoing outgoing_from outgoing_to goes_to message_to peer_of row_items held_rows rows_held padded fresh_network fresh_table fresh_nodes node_at network_after packets_of packet_of
+unfolding fields outgoing outgoing_from outgoing_to message_to peer_of row_items held_rows rows_held padded fresh_network fresh_table fresh_nodes node_at network_after packets_of packet_of
 sending = tt
 
 -- that it is put into the store, and fits

@@ -5,7 +5,6 @@ use mathlib.Core.Bool.{Bool, true, false, cond, ◌&&◌}
 use mathlib.Core.List.{List, [], ◌∷◌}
 use lib.Dec.{ltb}
 use lib.ListN.{set}
-use Rattle.message.specs.declared.Outgoing.{Outgoing}
 use Rattle.store.specs.Change.{count_outgoing}
 use Rattle.protocol.specs.Answer.{is_refused}
 use Rattle.protocol.specs.Deliver.{deliver_step}
@@ -36,7 +35,7 @@ pub record After : Type 0 where
   pub fit : Bool
 
 -- what a decision sends
-abbrev pub out : Step → ℕ → List Outgoing
+abbrev pub out : Step → ℕ → List (Option Envelope)
 out step back = outgoing step.node step.sends back
 
 module _ (n : ℕ) (table : List Node) (sent : List Packet) where

@@ -7,17 +7,20 @@ ghost use Rattle.examples.specs.NetworkReturn.{ReturnReached};
 ghost use Rattle.examples.specs.Sixteen.{SixteenLines};
 
 // Every example of the list answers as document 01 states, on any table of n nodes and any store of 65,280 bytes.
+#[tactic(auto, using(crate::proofs::Lettered::lettered_examples))]
 pub fn lettered_examples()
     ensures { LetteredExamples }
 {}
 
 // The sixteen lines of document 01's drill give the sixteen answers that it states, on any table of three nodes and any
 // store of 65,280 bytes.
+#[tactic(auto, using(crate::proofs::Sixteen::sixteen_lines))]
 pub fn sixteen_lines()
     ensures { SixteenLines }
 {}
 
 // The calls of these lines are a run of the network, in which node 0 returns: demand 3 is not empty.
+#[tactic(auto, using(crate::proofs::NetworkReturn::return_reached))]
 pub fn return_reached()
     ensures { ReturnReached }
 {}

@@ -14,7 +14,8 @@ use Rattle.message.specs.declared.Message.{Message}
 use Rattle.message.specs.declared.Message.TheVariants as message
 use Rattle.protocol.specs.Answer.{ok, refused, is_refused}
 use Rattle.protocol.specs.Deliver.{on_message}
-use Rattle.protocol.specs.Fetching.{on_fetch, with_table, has_conflict, stopped, node_recover, table_counted, on_table}
+use Rattle.protocol.specs.Fetching.{on_fetch, with_table, has_conflict, stopped, table_counted, on_table}
+use Rattle.protocol.proofs.Cases.{recover_cases}
 use Rattle.protocol.specs.Node.{half, row_of, with_counted, confirming_begun, below_half, at_most_half, own_incarnation}
 use Rattle.operations.specs.Operation.{carried_out}
 use Rattle.protocol.specs.Phase.{is_fetching, is_up, is_storing, is_confirming, is_returning, at_stage}
@@ -139,7 +140,7 @@ module _ (table : List Node) (store : List ℕ) (rs : List (List ℕ)) (n k : �
       → ActsAs ((is_fetching node.phase && (own_incarnation node o && not (is_counted node sender))) &&
       is_room_for (cond (at_most_half (with_table node sender i items)) 0 (cond (has_conflict (with_table node sender i items)) 0 (n - 1))) rs)
       (on_table node sender i o items)
-  unfolding on_table table_counted node_recover stopped send_store ok
+  unfolding on_table table_counted stopped send_store ok
   table_node o items =
       by_cond (ActsAs test) (is_fetching node.phase) _ _
       (λ e. by_cond (ActsAs test) (own_incarnation node o) _ _
@@ -147,8 +148,8 @@ module _ (table : List Node) (store : List ℕ) (rs : List (List ℕ)) (n k : �
       (λ c _ _. rw (e, own, c) (no Counted))
       (λ c. by_cond (ActsAs test) (at_most_half (with_table node sender i items)) _ _
       (λ few _ _. rw (e, own, c, few) (quiet_acts table store rs k sender _ _ refl))
-      (λ few. by_cond (ActsAs test) (has_conflict (with_table node sender i items)) _ _
-      (λ two _ _. rw (e, own, c, few, two) (quiet_acts table store rs k sender _ _ refl))
+      (λ few. recover_cases (ActsAs test) (with_table node sender i items)
+      (λ row two _ _. rw (e, own, c, few, two) (quiet_acts table store rs k sender _ _ refl))
       (λ two s _. rw (e, own, c, few, two) (store_acts table store rs k sender n low most _ s)))))
       (λ own _ _. rw (e, own) (no Stale)))
       (λ e _ _. rw e (no NotTaken))

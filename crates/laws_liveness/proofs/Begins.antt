@@ -3,17 +3,18 @@ use Prim.Native.Nat.{ℕ, ◌+◌, ◌-◌, ◌≤◌, ◌<◌}
 use native.Mathlib.Omega.{arith}
 use mathlib.Core.Path.{◌≡◌, refl, sym, ap, ◌∙◌}
 use mathlib.Core.Logic.{◌≢◌}
-use mathlib.Core.Bool.{true, not}
+use mathlib.Core.Bool.{Bool, true, cond}
 use mathlib.Core.List.{List}
-use borrow.Author.Tests.{lt-ltb, ne_eqb}
-use Rattle.item.specs.Tests.{and_both}
+use borrow.Author.Tests.{ne_eqb}
 use Rattle.store.specs.Change.{count_outgoing}
 use Rattle.store.specs.Records.{records_of}
 use Rattle.store.specs.Sound.{free_count, message_in}
 use Rattle.protocol.specs.Answer.{ok}
 use Rattle.protocol.specs.Node.{half, no_peers, row_of, own_item}
 use Rattle.operations.specs.Operation.{Result, carried_out}
-use Rattle.protocol.specs.Outgoing.{outgoing, outgoing_to, goes_to, message_to}
+use Rattle.protocol.specs.Outgoing.{outgoing, message_to, envelope_to}
+use Rattle.message.specs.declared.Message.{Message}
+use Rattle.message.specs.declared.Message.TheVariants as message
 use Rattle.protocol.specs.Phase.{is_up}
 use Rattle.protocol.specs.Table.{node_at}
 use Rattle.protocol.specs.Write.{send_store}
@@ -28,10 +29,10 @@ use Rattle.laws_runs.proofs.Keeps.{Decided, group_valid}
 use Rattle.laws_liveness.specs.Delivery.{store_to}
 use Rattle.laws_liveness.specs.Each.{Each, Both}
 use Rattle.laws_liveness.specs.Laws.{Peers, HasBegun, WriteGetsThrough, BeginsAndGetsThrough}
-use Rattle.laws_liveness.proofs.Delivering.{Acted, out_has, carried_acted, replaced, left_alone}
+use Rattle.laws_liveness.proofs.Delivering.{Acted, out_sent, carried_acted, replaced, left_alone}
 use Rattle.laws_liveness.proofs.Lists.{each_map, each_two, both_of}
 use Rattle.laws_liveness.proofs.Through.{write_gets_through}
-use Rattle.std.specs.Prelude.{Some}
+use Rattle.std.specs.Prelude.{Some, None}
 
 module _ (n x : ℕ) (low : x < n) (before : Result) (G : LeavesSound n before) (writer : Node) (D : Decided n before.table x x (send_store writer))
     (storing : writer.phase ≡ Up Storing) (none : writer.counted ≡ no_peers)
@@ -66,11 +67,12 @@ module _ (n x : ℕ) (low : x < n) (before : Result) (G : LeavesSound n before) 
 
   store_sent : (q : ℕ) → q < n → q ≢ x
       → (r : ℕ) × (message_in (records_of begun.store) r ≡ Some (store_to (node_at begun.table x) q (node_at begun.table q).incarnation))
-  unfolding send_store ok outgoing_to goes_to message_to
+  unfolding send_store ok message_to
   store_sent q h d =
-      let s = acted.mail.new (outgoing_to writer (send_store writer).sends x q)
-      (out_has writer (send_store writer).sends x q (omega (arith, size_fits n (group_valid n before.table before.store G))))
-      (and_both (lt-ltb q writer.n (omega (arith, size))) (ap not (ne_eqb q writer.number (λ z. d (z ∙ number))))) in
+      let m : Message = message.Store writer.attempt (own_item writer) in
+      let s = acted.mail.new (envelope_to writer q m)
+      (out_sent writer (send_store writer).sends x q m (omega (arith, size, size_fits n (group_valid n before.table before.store G))) (omega (arith, size))
+      (ap (λ (b : Bool). cond b None (Some m)) (ne_eqb q writer.number (λ z. d (z ∙ number))))) in
       (s.0, s.1 ∙ ap (λ (v : Node). Some (store_to v q (node_at begun.table q).incarnation)) (sym x_is))
 
   -- f peers that are Up and whose rows take the item

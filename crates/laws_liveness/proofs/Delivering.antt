@@ -8,7 +8,7 @@ use mathlib.Core.Bool.{true, false}
 use mathlib.Core.List.{List, Memᴰ}
 use lib.ListN.{length, get_or, set}
 use lib.Seq.{get_or-set_same, get_or-set_other}
-use borrow.Author.Tests.{le-ltb}
+use borrow.Author.Tests.{lt-ltb, le-ltb}
 use Rattle.store_laws.proofs.Sound.{store_sound}
 use Rattle.item.specs.Maxima.{max_nodes}
 use Rattle.record.specs.Layout.{rows_of}
@@ -21,7 +21,8 @@ use Rattle.protocol.specs.Deliver.{deliver_step}
 use Rattle.operations.specs.Operation.{Result, sent_by, carried_out, delivered, on_sound}
 use Rattle.protocol.specs.Answer.{is_refused}
 use Rattle.protocol.specs.Node.{row_items}
-use Rattle.protocol.specs.Outgoing.{outgoing, outgoing_from, outgoing_to}
+use Rattle.protocol.specs.Outgoing.{outgoing, outgoing_from, outgoing_to, message_to, envelope_to}
+use Rattle.message.specs.declared.Message.{Message}
 use Rattle.protocol.specs.Sound.{sound_node}
 use Rattle.protocol.specs.Table.{no_node, node_at}
 use Rattle.protocol.proofs.TableLaws.{table_count}
@@ -44,9 +45,16 @@ from_has node s back k (suc count) (suc to) h =
     let z : suc k + to ≡ k + suc to = omega arith in
     Memᴰ.tail (subst (λ (i : ℕ). Memᴰ (outgoing_to node s back i) (outgoing_from node s back (suc k) count)) z (from_has node s back (suc k) count to (omega arith)))
 
-pub out_has : (node : Node) (s : Sends) (back to : ℕ) → to < max_nodes → Memᴰ (outgoing_to node s back to) (outgoing node s back)
+out_has : (node : Node) (s : Sends) (back to : ℕ) → to < max_nodes → Memᴰ (outgoing_to node s back to) (outgoing node s back)
 unfolding outgoing
 out_has node s back to h = subst (λ (i : ℕ). Memᴰ (outgoing_to node s back i) (outgoing_from node s back 0 max_nodes)) (zero-add to) (from_has node s back 0 max_nodes to h)
+
+-- and so the message to node `to`
+pub out_sent : (node : Node) (s : Sends) (back to : ℕ) (m : Message) → node.n ≤ max_nodes → to < node.n → message_to s node back to ≡ Some m
+    → Memᴰ (Some (envelope_to node to m)) (outgoing node s back)
+unfolding outgoing_to
+out_sent node s back to m most low e =
+    subst (λ (o : Option Envelope). Memᴰ o (outgoing node s back)) (rw (lt-ltb to node.n low, e)) (out_has node s back to (omega arith))
 
 -- a decision of node k carried out, which acts
 pub record Acted (n : ℕ) (before : Result) (k back : ℕ) (step : Step) (after : Result) : Type 0 where

@@ -4,12 +4,11 @@ use Prim.Native.Nat.{ℕ, suc, ◌+◌, ◌≤◌, ◌<◌}
 use native.Mathlib.Omega.{arith}
 use mathlib.Core.Path.{◌≡◌, refl, sym, ap, subst, ◌∙◌}
 use mathlib.Core.Logic.{◌≢◌}
-use mathlib.Core.Bool.{true}
+use mathlib.Core.Bool.{Bool, true, cond}
 use mathlib.Core.List.{List, [], ◌∷◌, map}
 use lib.ListN.{length}
-use borrow.Author.Tests.{lt-ltb, eq-eqb}
+use borrow.Author.Tests.{eq-eqb}
 use Rattle.item.specs.Maxima.{max_nodes}
-use Rattle.item.specs.Tests.{and_both}
 use Rattle.item.specs.declared.counters.Incarnation.{Incarnation}
 use Rattle.item.specs.declared.Item.{Item}
 use Rattle.record.specs.Layout.{rows_of}
@@ -21,7 +20,7 @@ use Rattle.store.specs.Sound.{free_count, message_in}
 use Rattle.protocol.specs.Answer.{ok}
 use Rattle.protocol.specs.Deliver.{deliver_step}
 use Rattle.operations.specs.Operation.{Result}
-use Rattle.protocol.specs.Outgoing.{outgoing, outgoing_to, goes_to, message_to}
+use Rattle.protocol.specs.Outgoing.{outgoing, message_to, envelope_to}
 use Rattle.protocol.specs.Sound.{sound_node}
 use Rattle.protocol.specs.Table.{node_at}
 use Rattle.protocol.specs.declared.Answer.{Answer}
@@ -35,9 +34,9 @@ use Rattle.laws_runs.specs.Laws.{LeavesSound}
 use Rattle.laws_runs.proofs.Keeps.{group_valid}
 use Rattle.laws_liveness.specs.Delivery.{Delivery, deliver, Deliver, oks, envelope_of}
 use Rattle.laws_liveness.specs.Each.{Each, Both, Distinct}
-use Rattle.laws_liveness.proofs.Delivering.{Acted, out_has, delivery_as, sound_as, replaced, left_alone}
+use Rattle.laws_liveness.proofs.Delivering.{Acted, out_sent, delivery_as, sound_as, replaced, left_alone}
 use Rattle.laws_liveness.proofs.Lists.{each_map, each_two, both_map}
-use Rattle.std.specs.Prelude.{Some}
+use Rattle.std.specs.Prelude.{Some, None}
 
 -- what node q makes of a message m of node x under incarnation i: it answers m' under its own, and is then as Q says
 pub record Answering (x q : ℕ) (i : Incarnation) (m m' : Message) (under : Incarnation) (Q : Node → Type 0) (node : Node) (items : List Item) : Type 0 where
@@ -61,7 +60,7 @@ module _ (n x : ℕ) (x_low : x < n) (i : Incarnation) (m m' : ℕ → Message) 
 
   one : (q r : ℕ) (before : Result) → LeavesSound n before → message_in (records_of before.store) r ≡ Some (envelope_of x q i (m q)) → q < n
       → P q (node_at before.table q) → 1 ≤ free_count (records_of before.store) → One q r before
-  unfolding ok outgoing_to goes_to message_to
+  unfolding ok message_to
   one q r before G h low p room =
       record {
         is_ok = A.answer_is;
@@ -98,9 +97,10 @@ module _ (n x : ℕ) (x_low : x < n) (i : Incarnation) (m m' : ℕ → Message) 
       A : Acted n before q x (ok B.after (sends.Back (m' q))) (deliver before r)
       A = delivery_as n before G r (envelope_of x q i (m q)) h (ok B.after (sends.Back (m' q))) B.step_is refl (omega (arith, sent))
 
-      w : (s : ℕ) × (message_in (records_of (deliver before r).store) s ≡ Some (outgoing_to B.after (sends.Back (m' q)) x x).envelope)
-      w = A.mail.new (outgoing_to B.after (sends.Back (m' q)) x x) (out_has B.after (sends.Back (m' q)) x x (omega (arith, most)))
-          (and_both (lt-ltb x B.after.n (omega (arith, size))) (eq-eqb x x refl))
+      w : (s : ℕ) × (message_in (records_of (deliver before r).store) s ≡ Some (envelope_to B.after x (m' q)))
+      w = A.mail.new (envelope_to B.after x (m' q))
+          (out_sent B.after (sends.Back (m' q)) x x (m' q) (omega (arith, size, most)) (omega (arith, size))
+          (ap (λ (b : Bool). cond b (Some (m' q)) None) (eq-eqb x x refl)))
 
   -- all of them
   pub record Answered (qs : List ℕ) (before : Result) : Type 0 where

@@ -27,16 +27,16 @@ use Rattle.protocol.specs.Storing.{store_verdict, reply_store, on_store, own_wri
 use Rattle.protocol.specs.declared.Answer.{Answer}
 use Rattle.protocol.specs.declared.Answer.TheVariants as answer
 use Rattle.protocol.specs.declared.Node.{Node}
-use Rattle.protocol.specs.declared.Peer.{Peer}
+use Rattle.std.specs.Prelude as core
+use Rattle.std.specs.Prelude.{Some}
+use Rattle.protocol.specs.declared.Refusal.{Refusal}
 use Rattle.protocol.specs.declared.Phase.{Phase}
 use Rattle.protocol.specs.declared.Phase.TheVariants.{Up}
 use Rattle.protocol.specs.declared.Refusal.TheVariants.{LowerRank, Stale, OtherTag}
 use Rattle.protocol.specs.declared.Sends.TheVariants as sends
 use Rattle.protocol.specs.declared.Stage.TheVariants.{Storing, Confirming}
 use Rattle.protocol.specs.declared.Step.{Step}
-use Rattle.protocol.specs.declared.Verdict.TheVariants as verdict
 use Rattle.protocol.specs.Shaped.{Shaped}
-use Rattle.protocol.proofs.Counts.{peer_under}
 use Rattle.protocol.proofs.InView.{size_is}
 use Rattle.laws_node.proofs.Soundly.{read_sound}
 use Rattle.laws_enabled.specs.Acting.{row_takes}
@@ -58,13 +58,16 @@ same_item_lem i = and_both (eq-eqb i.index.0 i.index.0 refl) (eq-eqb i.tag.0 i.t
 
 -- ---- the peers
 
-takes_verdict : (row : Row) (i : Incarnation) (a : Attempt) (item : Item) → row_takes row i a item ≡ true → store_verdict row i a item ≡ verdict.Take
+abbrev takes : core.Result (Unit {0}) Refusal
+takes = core.Ok tt
+
+takes_verdict : (row : Row) (i : Incarnation) (a : Attempt) (item : Item) → row_takes row i a item ≡ true → store_verdict row i a item ≡ takes
 unfolding row_takes store_verdict
 takes_verdict row i a item =
     go (ranks_below item row.item) (ranks_below row.item item) (same_item item row.item) (earlier i a row.incarnation row.attempt)
   where
     go : (lower higher alike early : Bool) → (not lower && (higher || (alike && not early))) ≡ true
-        → cond lower (verdict.Refuse LowerRank) (cond higher verdict.Take (cond alike (cond early (verdict.Refuse Stale) verdict.Take) (verdict.Refuse OtherTag))) ≡ verdict.Take
+        → cond lower (core.Err LowerRank) (cond higher takes (cond alike (cond early (core.Err Stale) takes) (core.Err OtherTag))) ≡ takes
     go true higher alike early e = absurd (false≢true e)
     go false true alike early e = refl
     go false false true true e = absurd (false≢true e)
@@ -146,18 +149,19 @@ module _ (n x : ℕ) (i : Incarnation) (a : Attempt) (item : Item) (under : ℕ 
       (refl, omega arith)
 
   abbrev pub AtConfirming : ℕ → Node → Type 0
-  AtConfirming p node = (node.phase ≡ Up Confirming) × Writes node × (peer_of node.asked p ≡ peer_under (under p))
+  AtConfirming p node = (node.phase ≡ Up Confirming) × Writes node × (peer_of node.asked p ≡ Some (under p))
+
+  was_asked : (q : ℕ) (node : Node) → peer_of node.asked q ≡ Some (under q) → asked_under node q (under q) ≡ true
+  unfolding asked_under
+  was_asked q node e = rw e (same_incarnation_lem (under q))
 
   pub confirmed_taken : (q : ℕ) (node : Node) (items : List Item) → AtConfirming q node → is_counted node q ≡ false
       → deliver_step node (envelope_of q x (under q) (message.Confirmed i a item)) items
       ≡ cond (below_half (with_counted node q (under q))) (ok (with_counted node q (under q)) sends.Nothing) (store_success (with_counted node q (under q)))
-  unfolding deliver_step on_message on_confirmed confirmed_counted asked_under
+  unfolding deliver_step on_message on_confirmed confirmed_counted
   confirmed_taken q node items w c =
       let s : is_confirming node.phase ≡ true = ap is_confirming w.0 in
-      let present : (peer_of node.asked q).present ≡ true = ap (λ (p : Peer). p.present) w.2 in
-      let told : same_incarnation (peer_of node.asked q).incarnation (under q) ≡ true =
-      subst (λ (o : Incarnation). same_incarnation o (under q) ≡ true) (sym (ap (λ (p : Peer). p.incarnation) w.2)) (same_incarnation_lem (under q)) in
-      rw (s, own_write_lem node w.1, present, told, c)
+      rw (s, own_write_lem node w.1, was_asked q node w.2, c)
 
   pub confirming_kept : (p q : ℕ) (node : Node) → AtConfirming p node → AtConfirming p (with_counted node q (under q))
   unfolding with_counted own_item row_of
@@ -173,7 +177,7 @@ module _ (n x : ℕ) (i : Incarnation) (a : Attempt) (item : Item) (under : ℕ 
   success_fits node q sound shaped full = (end_taken node.phase (own_item node), omega (arith, nothing_sent_lem (store_success node).node q))
 
   -- the writer that has just asked
-  pub confirming_at : (node : Node) → AtStoring 0 node → (q : ℕ) → peer_of node.counted q ≡ peer_under (under q) → AtConfirming q (to_confirm node).node
+  pub confirming_at : (node : Node) → AtStoring 0 node → (q : ℕ) → peer_of node.counted q ≡ Some (under q) → AtConfirming q (to_confirm node).node
   unfolding send_confirm ok confirming_begun own_item row_of at_stage
   confirming_at node w q e = (ap (λ (p : Phase). at_stage p Confirming) w.0, w.1, e)
 

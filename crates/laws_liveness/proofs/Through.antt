@@ -6,10 +6,8 @@ use mathlib.Core.Logic.{◌≢◌}
 use mathlib.Core.Bool.{true, false}
 use mathlib.Core.List.{List, [], ◌∷◌, ◌++◌, map}
 use lib.ListN.{length}
-use borrow.Author.Tests.{lt-ltb}
 use Rattle.store_laws.proofs.Sound.{size_least}
 use Rattle.item.specs.Maxima.{max_nodes, valid_size}
-use Rattle.item.specs.Tests.{and_both}
 use Rattle.item.specs.declared.counters.Attempt.{Attempt}
 use Rattle.item.specs.declared.counters.Incarnation.{Incarnation}
 use Rattle.item.specs.declared.Item.{Item}
@@ -20,7 +18,7 @@ use Rattle.store.specs.Sound.{free_count, message_in}
 use Rattle.protocol.specs.Answer.{ok}
 use Rattle.protocol.specs.Node.{half, no_peers, row_of, own_item, peer_of, count_peers, confirming_begun}
 use Rattle.operations.specs.Operation.{Result}
-use Rattle.protocol.specs.Outgoing.{outgoing, outgoing_to, goes_to, message_to}
+use Rattle.protocol.specs.Outgoing.{outgoing, message_to, envelope_to}
 use Rattle.protocol.specs.Phase.{is_up, at_stage}
 use Rattle.protocol.specs.Sound.{sound_node}
 use Rattle.protocol.specs.Storing.{send_confirm, store_success}
@@ -30,10 +28,9 @@ use Rattle.protocol.proofs.TableLaws.{node_sound}
 use Rattle.protocol.specs.declared.Answer.{Answer}
 use Rattle.protocol.specs.declared.Answer.TheVariants as answer
 use Rattle.protocol.specs.declared.Node.{Node}
-use Rattle.protocol.specs.declared.Peer.{Peer}
 use Rattle.protocol.specs.declared.Sends.TheVariants as sends
 use Rattle.protocol.specs.declared.Stage.TheVariants.{Confirming}
-use Rattle.protocol.proofs.Counts.{peer_under, none_present}
+use Rattle.protocol.proofs.Counts.{none_present}
 use Rattle.protocol.proofs.InView.{number_is, size_is, size_fits}
 use Rattle.laws_runs.specs.Laws.{LeavesSound}
 use Rattle.laws_runs.proofs.Keeps.{group_valid, group_table}
@@ -41,12 +38,13 @@ use Rattle.laws_enabled.specs.Acting.{row_takes}
 use Rattle.laws_liveness.specs.Delivery.{Delivery, Deliver, oks, envelope_of, store_to}
 use Rattle.laws_liveness.specs.Each.{Each, Both, Distinct}
 use Rattle.laws_liveness.specs.Laws.{WriteGetsThrough}
-use Rattle.laws_liveness.proofs.Delivering.{Acted, out_has, replaced}
+use Rattle.laws_liveness.proofs.Delivering.{Acted, out_sent, replaced}
 use Rattle.laws_liveness.proofs.Lists.{each_map, each_all, each_two, both_map, both_of, deliver_join, each_some, map_four}
 use Rattle.laws_liveness.proofs.Peer.{Answered, all_answer}
 use Rattle.laws_liveness.proofs.Stages.{MayTake, Holding, store_answer, confirm_answer, AtStoring, to_confirm, stored_taken, storing_kept, confirm_fits, AtConfirming, confirmed_taken, confirming_kept, success_fits, confirming_at, settles}
 use Rattle.laws_liveness.proofs.Writer.{Tallied, tally}
-use Rattle.std.specs.Prelude.{Some}
+use Rattle.std.specs.Prelude.{Option, Some, is_some, option_map}
+use Rattle.message.specs.declared.Message.{Message}
 
 some_half : (n : ℕ) → valid_size n ≡ true → 0 < half n
 unfolding half
@@ -81,7 +79,7 @@ module _ (n x : ℕ) (x_low : x < n) (i : Incarnation) (a : Attempt) (item : Ite
       tally n x x_low under (message.Stored i a item) (to_confirm n x i a item under) (AtStoring n x i a item under) (half n)
       (stored_taken n x i a item under) (storing_kept n x i a item under) (confirm_fits n x i a item under) q qs r rs d l before G h
       (each_all (λ p. AtStoring n x i a item under p (node_at before.table x)) (λ p. w) (q ∷ qs))
-      (each_all (λ p. (peer_of (node_at before.table x).counted p).present ≡ false) (λ p. ap (λ (l : List Peer). (peer_of l p).present) none ∙ none_present p) (q ∷ qs))
+      (each_all (λ p. is_some (peer_of (node_at before.table x).counted p) ≡ false) (λ p. ap (λ (l : List (Option Incarnation)). is_some (peer_of l p)) none ∙ none_present p) (q ∷ qs))
       (omega (arith, ap count_peers none, none_counted_lem)) room
 
   confirmed_round : (before : Result) → LeavesSound n before → (qs rs : List ℕ) → Distinct qs → Each (λ q. q < n) qs → length qs ≡ half n
@@ -96,7 +94,7 @@ module _ (n x : ℕ) (x_low : x < n) (i : Incarnation) (a : Attempt) (item : Ite
       tally n x x_low under (message.Confirmed i a item) store_success (AtConfirming n x i a item under) 0
       (confirmed_taken n x i a item under) (confirming_kept n x i a item under) (success_fits n x i a item under) q qs r rs d l before G h
       w
-      (each_all (λ p. (peer_of (node_at before.table x).counted p).present ≡ false) (λ p. ap (λ (l : List Peer). (peer_of l p).present) none ∙ none_present p) (q ∷ qs))
+      (each_all (λ p. is_some (peer_of (node_at before.table x).counted p) ≡ false) (λ p. ap (λ (l : List (Option Incarnation)). is_some (peer_of l p)) none ∙ none_present p) (q ∷ qs))
       (omega (arith, ap count_peers none, none_counted_lem)) (omega arith)
 
   pub x_small : (before : Result) → LeavesSound n before → x < max_nodes
@@ -108,11 +106,11 @@ module _ (n x : ℕ) (x_low : x < n) (i : Incarnation) (a : Attempt) (item : Ite
 
   -- the Confirms that the f-th Stored sends
   confirm_sent : (middle after : Result) → LeavesSound n middle → (node : Node) (back : ℕ) → Acted n middle x back (to_confirm n x i a item under node) after
-      → AtStoring n x i a item under 0 node → (q : ℕ) → q < n → peer_of node.counted q ≡ peer_under (under q)
+      → AtStoring n x i a item under 0 node → (q : ℕ) → q < n → peer_of node.counted q ≡ Some (under q)
       → (r : ℕ) × (message_in (records_of after.store) r ≡ Some (envelope_of x q i (message.Confirm (under q) a item)))
-  unfolding send_confirm ok confirming_begun outgoing_to goes_to message_to own_item row_of
+  unfolding send_confirm ok confirming_begun message_to own_item row_of
   confirm_sent middle after G node back A w q low e =
-      (s.0, s.1 ∙ (λ j. Some (envelope_of (number j) q (w.1.0 j) (message.Confirm (e j).incarnation (w.1.1 j) (w.1.2 j)))))
+      (s.0, s.1 ∙ (λ j. Some (envelope_of (number j) q (w.1.0 j) (message.Confirm (under q) (w.1.1 j) (w.1.2 j)))))
     where
       next : Node
       next = confirming_begun node (at_stage node.phase Confirming)
@@ -129,10 +127,14 @@ module _ (n x : ℕ) (x_low : x < n) (i : Incarnation) (a : Attempt) (item : Ite
       size : node.n ≡ n
       size = size_is n x next sound
 
-      s : (r : ℕ) × (message_in (records_of after.store) r ≡ Some (outgoing_to next (sends.Asked next.attempt (own_item next)) back q).envelope)
-      s = A.mail.new (outgoing_to next (sends.Asked next.attempt (own_item next)) back q)
-          (out_has next (sends.Asked next.attempt (own_item next)) back q (omega (arith, size_fits n (group_valid n middle.table middle.store G))))
-          (and_both (lt-ltb q node.n (omega (arith, size))) (ap (λ (p : Peer). p.present) e))
+      to_q : Message
+      to_q = message.Confirm (under q) next.attempt (own_item next)
+
+      s : (r : ℕ) × (message_in (records_of after.store) r ≡ Some (envelope_to next q to_q))
+      s = A.mail.new (envelope_to next q to_q)
+          (out_sent next (sends.Asked next.attempt (own_item next)) back q to_q
+          (omega (arith, size, size_fits n (group_valid n middle.table middle.store G))) (omega (arith, size))
+          (ap (option_map (λ (o : Incarnation). message.Confirm o next.attempt (own_item next))) e))
 
   -- ---- the four rounds
 
@@ -178,10 +180,10 @@ module _ (n x : ℕ) (x_low : x < n) (i : Incarnation) (a : Attempt) (item : Ite
 
     asked : (rs : List ℕ) × Both (λ q r. message_in (records_of T2.after.store) r ≡ Some (envelope_of x q i (message.Confirm (under q) a item))) peers rs
     asked = both_of (λ q r. message_in (records_of T2.after.store) r ≡ Some (envelope_of x q i (message.Confirm (under q) a item))) peers
-        (each_map (λ q. (q < n) × (peer_of T2.node.counted q ≡ peer_under (under q)))
+        (each_map (λ q. (q < n) × (peer_of T2.node.counted q ≡ Some (under q)))
         (λ q. (r : ℕ) × (message_in (records_of T2.after.store) r ≡ Some (envelope_of x q i (message.Confirm (under q) a item))))
         (λ q z. confirm_sent T2.middle T2.after T2.middle_group T2.node T2.back T2.acted w2 q z.0 z.1) peers
-        (each_two (λ q. q < n) (λ q. peer_of T2.node.counted q ≡ peer_under (under q)) peers lows T2.marks))
+        (each_two (λ q. q < n) (λ q. peer_of T2.node.counted q ≡ Some (under q)) peers lows T2.marks))
 
     cost : count_outgoing (outgoing next (to_confirm n x i a item under T2.node).sends T2.back) ≤ half n
     cost = (confirm_fits n x i a item under T2.node T2.back
@@ -201,7 +203,7 @@ module _ (n x : ℕ) (x_low : x < n) (i : Incarnation) (a : Attempt) (item : Ite
     x_next = A3.same x not_x ∙ is_next
 
     w4 : Each (λ q. AtConfirming n x i a item under q (node_at A3.after.table x)) peers
-    w4 = each_map (λ q. peer_of T2.node.counted q ≡ peer_under (under q)) (λ q. AtConfirming n x i a item under q (node_at A3.after.table x))
+    w4 = each_map (λ q. peer_of T2.node.counted q ≡ Some (under q)) (λ q. AtConfirming n x i a item under q (node_at A3.after.table x))
         (λ q z. subst (AtConfirming n x i a item under q) (sym x_next) (confirming_at n x i a item under T2.node w2 q z)) peers T2.marks
 
     T4 : Tallied n x x_low under (message.Confirmed i a item) store_success (AtConfirming n x i a item under) 0

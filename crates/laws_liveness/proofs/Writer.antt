@@ -4,7 +4,7 @@ use Prim.Native.Nat.{ℕ, zero, suc, ◌+◌, ◌≤◌, ◌<◌}
 use native.Mathlib.Omega.{arith}
 use mathlib.Core.Path.{◌≡◌, refl, sym, ap, subst, ◌∙◌}
 use mathlib.Core.Logic.{◌≢◌}
-use mathlib.Core.Bool.{Bool, true, false, cond}
+use mathlib.Core.Bool.{Bool, true, false, cond, false≢true}
 use mathlib.Core.List.{List, [], ◌∷◌, ◌++◌, map}
 use lib.Dec.{ltb}
 use lib.ListN.{length, set}
@@ -20,7 +20,7 @@ use Rattle.store.specs.Records.{records_of, record_in}
 use Rattle.store.specs.Sound.{free_count, message_in}
 use Rattle.protocol.specs.Answer.{ok, is_refused}
 use Rattle.protocol.specs.Deliver.{deliver_step}
-use Rattle.protocol.specs.Node.{half, no_peer, peer_of, count_peers, with_counted, below_half}
+use Rattle.protocol.specs.Node.{half, peer_of, count_peers, with_counted, below_half}
 use Rattle.operations.specs.Operation.{Result}
 use Rattle.protocol.specs.Outgoing.{outgoing}
 use Rattle.protocol.specs.Sound.{sound_node}
@@ -31,10 +31,9 @@ use Rattle.protocol.proofs.TableLaws.{node_sound}
 use Rattle.protocol.specs.declared.Answer.{Answer}
 use Rattle.protocol.specs.declared.Answer.TheVariants as answer
 use Rattle.protocol.specs.declared.Node.{Node}
-use Rattle.protocol.specs.declared.Peer.{Peer}
 use Rattle.protocol.specs.declared.Sends.TheVariants as sends
 use Rattle.protocol.specs.declared.Step.{Step}
-use Rattle.protocol.proofs.Counts.{peer_under}
+use Rattle.protocol.proofs.Counts.{count_none, count_some}
 use Rattle.protocol.proofs.InView.{size_is, size_fits}
 use Rattle.laws_enabled.proofs.Sent.{nothing_sent_lem}
 use Rattle.laws_runs.specs.Laws.{LeavesSound}
@@ -43,20 +42,19 @@ use Rattle.laws_liveness.specs.Delivery.{Delivery, deliver, Deliver, oks, envelo
 use Rattle.laws_liveness.specs.Each.{Each, Both, Distinct}
 use Rattle.laws_liveness.proofs.Delivering.{Acted, delivery_as, sound_as, replaced, left_alone}
 use Rattle.laws_liveness.proofs.Lists.{each_map, each_two, both_map}
-use Rattle.std.specs.Prelude.{Some}
+use Rattle.std.specs.Prelude.{Option, Some, None, is_some}
 
 -- one more is counted
-pub count_set : (peers : List Peer) (q : ℕ) (p : Peer) → p.present ≡ true → (peer_of peers q).present ≡ false → q < length peers
-    → count_peers (set peers q p) ≡ suc (count_peers peers)
-unfolding count_peers peer_of
-count_set [] q p e a l = absurd (omega arith)
-count_set (x ∷ peers) zero p e a l = rw (e, a)
-count_set (x ∷ peers) (suc q) p e a l = go x.present (count_set peers q p e a (omega arith))
-  where
-    go : (b : Bool) → count_peers (set peers q p) ≡ suc (count_peers peers)
-        → cond b (suc (count_peers (set peers q p))) (count_peers (set peers q p)) ≡ suc (cond b (suc (count_peers peers)) (count_peers peers))
-    go true h = ap suc h
-    go false h = h
+pub count_set : (peers : List (Option Incarnation)) (q : ℕ) (i : Incarnation) → is_some (peer_of peers q) ≡ false → q < length peers
+    → count_peers (set peers q (Some i)) ≡ suc (count_peers peers)
+unfolding peer_of
+count_set [] q i a l = absurd (omega arith)
+count_set (None ∷ peers) zero i a l = omega (arith, count_none peers, count_some i peers)
+count_set (Some j ∷ peers) zero i a l = absurd (false≢true (sym a))
+count_set (None ∷ peers) (suc q) i a l =
+    omega (arith, count_none peers, count_none (set peers q (Some i)), count_set peers q i a (omega arith))
+count_set (Some j ∷ peers) (suc q) i a l =
+    omega (arith, count_some j peers, count_some j (set peers q (Some i)), count_set peers q i a (omega arith))
 
 module _ (n x : ℕ) (x_low : x < n) (under : ℕ → Incarnation) (m : Message) (final : Node → Step) (Ready : ℕ → Node → Type 0) (need : ℕ)
     (takes : (q : ℕ) (node : Node) (items : List Item) → Ready q node → is_counted node q ≡ false
@@ -71,21 +69,21 @@ module _ (n x : ℕ) (x_low : x < n) (under : ℕ → Incarnation) (m : Message)
 
   -- a message in record r, where q is not counted yet
   module _ (q r : ℕ) (before : Result) (G : LeavesSound n before) (h : message_in (records_of before.store) r ≡ Some (envelope_of q x (under q) m))
-      (low : q < n) (ready : Ready q (node_at before.table x)) (absent : (peer_of (node_at before.table x).counted q).present ≡ false) where
+      (low : q < n) (ready : Ready q (node_at before.table x)) (absent : is_some (peer_of (node_at before.table x).counted q) ≡ false) where
     long : q < length (node_at before.table x).counted
     long = omega (arith, (G.within.shaped x).counted_length, size_fits n (group_valid n before.table before.store G))
 
     counted_now : count_peers (with_counted (node_at before.table x) q (under q)).counted ≡ suc (count_peers (node_at before.table x).counted)
     unfolding with_counted
-    counted_now = count_set (node_at before.table x).counted q (peer_under (under q)) refl absent long
+    counted_now = count_set (node_at before.table x).counted q (under q) absent long
 
-    mark : peer_of (with_counted (node_at before.table x) q (under q)).counted q ≡ peer_under (under q)
+    mark : peer_of (with_counted (node_at before.table x) q (under q)).counted q ≡ Some (under q)
     unfolding with_counted peer_of
-    mark = get_or-set_same (node_at before.table x).counted q (peer_under (under q)) no_peer long
+    mark = get_or-set_same (node_at before.table x).counted q (Some (under q)) None long
 
     unmarked : (k : ℕ) → k ≢ q → peer_of (with_counted (node_at before.table x) q (under q)).counted k ≡ peer_of (node_at before.table x).counted k
     unfolding with_counted peer_of
-    unmarked k d = get_or-set_other (node_at before.table x).counted q k (peer_under (under q)) no_peer d
+    unmarked k d = get_or-set_other (node_at before.table x).counted q k (Some (under q)) None d
 
     size : (node_at before.table x).n ≡ n
     size = size_is n x (node_at before.table x) (node_sound n before.table (group_table n before.table before.store G) x x_low)
@@ -134,14 +132,14 @@ module _ (n x : ℕ) (x_low : x < n) (under : ℕ → Incarnation) (m : Message)
     pub middle_group : LeavesSound n middle
     pub acted : Acted n middle x back (final node) after
     pub full : count_peers node.counted ≡ half n
-    pub marks : Each (λ q. peer_of node.counted q ≡ peer_under (under q)) qs
+    pub marks : Each (λ q. peer_of node.counted q ≡ Some (under q)) qs
     pub unmarked : (k : ℕ) → Each (λ q. q ≢ k) qs → peer_of node.counted k ≡ peer_of (node_at before.table x).counted k
     pub ready : (p : ℕ) → Ready p (node_at before.table x) → Ready p node
     pub same : (k : ℕ) → k ≢ x → node_at after.table k ≡ node_at before.table k
     pub free : free_count (records_of middle.store) ≡ free_count (records_of before.store)
 
   last_tally : (q r : ℕ) (before : Result) (G : LeavesSound n before) (h : message_in (records_of before.store) r ≡ Some (envelope_of q x (under q) m))
-      (low : q < n) (ready : Ready q (node_at before.table x)) (absent : (peer_of (node_at before.table x).counted q).present ≡ false)
+      (low : q < n) (ready : Ready q (node_at before.table x)) (absent : is_some (peer_of (node_at before.table x).counted q) ≡ false)
       → suc (count_peers (node_at before.table x).counted) ≡ half n → need ≤ free_count (records_of before.store) → Tallied (q ∷ []) before
   unfolding Deliver oks Each
   last_tally q r before G h low ready absent full room =
@@ -170,7 +168,7 @@ module _ (n x : ℕ) (x_low : x < n) (under : ℕ → Incarnation) (m : Message)
       A = ends q r before G h low ready absent full room
 
   more_tally : (q r : ℕ) (qs : List ℕ) (before : Result) (G : LeavesSound n before) (h : message_in (records_of before.store) r ≡ Some (envelope_of q x (under q) m))
-      (low : q < n) (ready : Ready q (node_at before.table x)) (absent : (peer_of (node_at before.table x).counted q).present ≡ false)
+      (low : q < n) (ready : Ready q (node_at before.table x)) (absent : is_some (peer_of (node_at before.table x).counted q) ≡ false)
       → Each (λ b. b ≢ q) qs → (A : Acted n before x q (ok (with_q before q) sends.Nothing) (deliver before r)) → Tallied qs (deliver before r) → Tallied (q ∷ qs) before
   unfolding Deliver oks Each ok
   more_tally q r qs before G h low ready absent apart A R =
@@ -203,7 +201,7 @@ module _ (n x : ℕ) (x_low : x < n) (under : ℕ → Incarnation) (m : Message)
 
   pub tally : (q : ℕ) (qs : List ℕ) (r : ℕ) (rs : List ℕ) → Distinct (q ∷ qs) → Each (λ a. a < n) (q ∷ qs) → (before : Result) → LeavesSound n before
       → Both (λ a s. message_in (records_of before.store) s ≡ Some (envelope_of a x (under a) m)) (q ∷ qs) (r ∷ rs)
-      → Each (λ a. Ready a (node_at before.table x)) (q ∷ qs) → Each (λ a. (peer_of (node_at before.table x).counted a).present ≡ false) (q ∷ qs)
+      → Each (λ a. Ready a (node_at before.table x)) (q ∷ qs) → Each (λ a. is_some (peer_of (node_at before.table x).counted a) ≡ false) (q ∷ qs)
       → count_peers (node_at before.table x).counted + suc (length qs) ≡ half n → need ≤ free_count (records_of before.store) → Tallied (q ∷ qs) before
   unfolding Distinct Each Both ok
   tally q [] r [] d l before G h ready absent count room =
@@ -217,10 +215,10 @@ module _ (n x : ℕ) (x_low : x < n) (under : ℕ → Incarnation) (m : Message)
       (λ a t z. A.mail.old t (envelope_of a x (under a) m) z) (p ∷ qs) (s ∷ rs) h.1)
       (each_map (λ a. Ready a (node_at before.table x)) (λ a. Ready a (node_at (deliver before r).table x))
       (λ a z. subst (Ready a) (sym is_with) (kept a q (node_at before.table x) z)) (p ∷ qs) ready.1)
-      (each_map (λ a. (a ≢ q) × ((peer_of (node_at before.table x).counted a).present ≡ false)) (λ a. (peer_of (node_at (deliver before r).table x).counted a).present ≡ false)
-      (λ a z. ap (λ (v : Node). (peer_of v.counted a).present) is_with
-      ∙ ap (λ (v : Peer). v.present) (unmarked q r before G h.0 l.0 ready.0 absent.0 a z.0) ∙ z.1) (p ∷ qs)
-      (each_two (λ a. a ≢ q) (λ a. (peer_of (node_at before.table x).counted a).present ≡ false) (p ∷ qs) d.0 absent.1))
+      (each_map (λ a. (a ≢ q) × (is_some (peer_of (node_at before.table x).counted a) ≡ false)) (λ a. is_some (peer_of (node_at (deliver before r).table x).counted a) ≡ false)
+      (λ a z. ap (λ (v : Node). is_some (peer_of v.counted a)) is_with
+      ∙ ap (λ (v : Option Incarnation). is_some v) (unmarked q r before G h.0 l.0 ready.0 absent.0 a z.0) ∙ z.1) (p ∷ qs)
+      (each_two (λ a. a ≢ q) (λ a. is_some (peer_of (node_at before.table x).counted a) ≡ false) (p ∷ qs) d.0 absent.1))
       (omega (arith, ap (λ (v : Node). count_peers v.counted) is_with, counted_now q r before G h.0 l.0 ready.0 absent.0))
       (omega (arith, A.mail.fewer, nothing_sent_lem (with_q before q) q)))
     where

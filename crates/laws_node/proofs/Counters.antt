@@ -48,7 +48,7 @@ received_incarnation node s i items m step (counts_confirmed o a item e h l) = r
 received_incarnation node s i items m step (ends o a item e) = refl
 received_incarnation node s i items m step (tells e) = refl
 received_incarnation node s i items m step (counts_table o e l) = refl
-received_incarnation node s i items m step (stops o) = refl
+received_incarnation node s i items m step (stops o row) = refl
 received_incarnation node s i items m step (writes_back o e c) = refl
 
 not_less : (node : Node) (d : Decision) (step : Step) → Outcome node d step → node.incarnation.0 ≤ step.node.incarnation.0
@@ -105,7 +105,7 @@ received_rises node s i items m step h (counts_confirmed o a item e z l) = λ _ 
 received_rises node s i items m step h (ends o a item e) = λ _ _. same_not_less _ _ refl
 received_rises node s i items m step h (tells e) = λ _ _. same_not_less _ _ refl
 received_rises node s i items m step h (counts_table o e l) = λ _ _. same_not_less _ _ refl
-received_rises node s i items m step h (stops o) = λ _ d'. absurd (false≢true (sym d'))
+received_rises node s i items m step h (stops o row) = λ _ d'. absurd (false≢true (sym d'))
 received_rises node s i items m step h (writes_back o e c) =
     λ _ _. fetching_attempt node.phase node.attempt e h
 

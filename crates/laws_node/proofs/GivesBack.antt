@@ -38,9 +38,9 @@ unfolding store_success end_answer
 by_end node node' = by_answer node (store_success node')
     (by_cond (λ a. is_refused a ≡ false) (is_returning node'.phase) (answer.Accepted _) (answer.Settled _) (λ _. refl) (λ _. refl))
 
-by_stop : (node node' : Node) → GivesBack node (stopped node')
+by_stop : (node node' : Node) (row : ℕ) → GivesBack node (stopped node' row)
 unfolding stopped
-by_stop node node' = by_answer node (stopped node') refl
+by_stop node node' row = by_answer node (stopped node' row) refl
 
 received_gives_back : (node : Node) (s : ℕ) (i : Incarnation) (items : List Item) (m : Message) (step : Step)
     → Received node s i items m step → GivesBack node step
@@ -54,7 +54,7 @@ received_gives_back node s i items m step (counts_confirmed o a item e h l) = by
 received_gives_back node s i items m step (ends o a item e) = by_end node _
 received_gives_back node s i items m step (tells e) = by_ok node _ _
 received_gives_back node s i items m step (counts_table o e l) = by_ok node _ _
-received_gives_back node s i items m step (stops o) = by_stop node _
+received_gives_back node s i items m step (stops o row) = by_stop node _ row
 received_gives_back node s i items m step (writes_back o e c) = by_ok node _ _
 
 gives_back : (node : Node) (d : Decision) (step : Step) → Outcome node d step → GivesBack node step

@@ -166,7 +166,7 @@ received_leaves node s i items m step (counts_confirmed o a item e h l) = counte
 received_leaves node s i items m step (ends o a item e) = counted node _ s o a item refl refl refl refl (λ _. refl) (λ f g. never g)
 received_leaves node s i items m step (tells e) = kept node _
 received_leaves node s i items m step (counts_table o e l) = tabled node _ s o refl refl refl (λ _. (refl, refl))
-received_leaves node s i items m step (stops o) = tabled node _ s o refl refl refl (λ g. never g)
+received_leaves node s i items m step (stops o row) = tabled node _ s o refl refl refl (λ g. never g)
 received_leaves node s i items m step (writes_back o e c) = tabled node _ s o refl refl refl (λ g. never g)
 
 leaves : (node : Node) (d : Decision) (step : Step) → Outcome node d step → Leaves (changed d node.number) node step.node

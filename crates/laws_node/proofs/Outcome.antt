@@ -55,7 +55,7 @@ pub data Received (node : Node) (s : ℕ) (i : Incarnation) (items : List Item) 
   counts_table : (o : Incarnation) → is_fetching node.phase ≡ true
       → ltb (count_peers (with_table node s i items).counted) (suc (half node.n)) ≡ true
       → Received node s i items (message.Table o) (ok (with_table node s i items) sends.Nothing)
-  stops : (o : Incarnation) → Received node s i items (message.Table o) (stopped (with_table node s i items))
+  stops : (o : Incarnation) (row : ℕ) → Received node s i items (message.Table o) (stopped (with_table node s i items) row)
   writes_back : (o : Incarnation) → is_fetching node.phase ≡ true → has_conflict (with_table node s i items) ≡ false
       → Received node s i items (message.Table o) (send_store (written_back (with_table node s i items)))
 

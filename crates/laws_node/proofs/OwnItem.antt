@@ -103,7 +103,7 @@ received_item node s i items m step there here d (counts_confirmed o a item e h 
 received_item node s i items m step there here d (ends o a item e) = λ _. refl
 received_item node s i items m step there here d (tells e) = λ _. refl
 received_item node s i items m step there here d (counts_table o e l) = λ _. table_item node s i items there here
-received_item node s i items m step there here d (stops o) = λ _. lost (crashed_item (with_table node s i items))
+received_item node s i items m step there here d (stops o row) = λ _. lost (crashed_item (with_table node s i items))
 received_item node s i items m step there here d (writes_back o e c) =
     λ _. subst (ByTable (get_or items node.number zero_item) (own_item node)) (sym (back_item node s i items there))
     (table_item node s i items there here)

@@ -57,7 +57,7 @@ module _ (n k : ℕ) (node : Node) (S : Soundly n k node) (f : 0 < half n) (belo
   received_sound s i items m step l d z (ends o a item e) = ended_sound n k node S s l i d e
   received_sound s i items m step l d z (tells e) = S
   received_sound s i items m step l d z (counts_table o e less) = table_counted n k node S s l i d items z e (omega arith) less
-  received_sound s i items m step l d z (stops o) = crashed_sound n k (with_table node s i items) S.number_is S.size_is
+  received_sound s i items m step l d z (stops o row) = crashed_sound n k (with_table node s i items) S.number_is S.size_is
   received_sound s i items m step l d z (writes_back o e none) = back_sound n k node S s l i d items z e rows below f none
 
   -- ---- any decision

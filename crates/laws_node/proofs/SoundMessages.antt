@@ -16,7 +16,7 @@ use Rattle.item.specs.declared.counters.Attempt.{Attempt}
 use Rattle.item.specs.declared.counters.Incarnation.{Incarnation}
 use Rattle.item.specs.declared.Item.{Item}
 use Rattle.protocol.specs.Fetching.{with_table, none_counted, has_conflict, written_back}
-use Rattle.protocol.specs.Merge.{merge_rows, lowest_marked}
+use Rattle.protocol.specs.Merge.{merge_rows}
 use Rattle.protocol.specs.Node.{no_peers, half, own_item, stored_row, peer_of, count_peers, with_row, with_rows, with_counted, confirming_begun, write_ended}
 use Rattle.protocol.specs.Phase.{is_fetching, is_up, is_storing, is_confirming, at_stage}
 use Rattle.protocol.specs.Sound.{every_from, row_use, row_sound, stage_counts, phase_counts, attempt_fits, counted_asked}
@@ -28,7 +28,7 @@ use Rattle.protocol.specs.declared.RowUse.{RowUse}
 use Rattle.protocol.specs.declared.RowUse.TheVariants as row_uses
 use Rattle.protocol.specs.declared.Stage.TheVariants.{Storing, Confirming}
 use Rattle.protocol.proofs.Confirming.{asked_peer}
-use Rattle.protocol.proofs.Rows.{merged_length}
+use Rattle.protocol.proofs.Rows.{none_marked}
 use Rattle.laws_node.proofs.Every.{every_weaker, one_more, not_none}
 use Rattle.laws_node.proofs.Outcome.{asking}
 use Rattle.laws_node.proofs.PhaseCases.{fetching_cases, up_cases, storing_cases, confirming_cases}
@@ -200,8 +200,4 @@ module _ (n k : ℕ) (node : Node) (S : Soundly n k node) (s : ℕ) (l : s < n) 
           begun_sound n k (with_table node s i items) S.number_is S.size_is (Returning Storing) (record { 0 = 1 }) (own_item (with_table node s i items))
           refl below f
           (rebuilt_sound n 0 (merge_rows (none_counted node) node.rows items) fetched_rows
-          (omega (
-            arith,
-            merged_length (none_counted node) node.rows items,
-            ltb-false (lowest_marked (merge_rows (none_counted node) node.rows items)) max_nodes none,
-          )))
+          (none_marked (merge_rows (none_counted node) node.rows items) none))

@@ -1,8 +1,8 @@
 -- Rows that stay sound: a row set by a Store or a write, rows merged with a Table, and unmarked rows once Fetching ends.
-use Prim.Native.Nat.{ℕ, zero, suc, ◌+◌, ◌≤◌, ◌<◌}
+use Prim.Native.Nat.{ℕ, suc, ◌+◌, ◌≤◌, ◌<◌}
 use native.Mathlib.Omega.{arith}
 use mathlib.Core.Path.{◌≡◌, refl, sym, ap, subst}
-use mathlib.Core.Bool.{Bool, true, false, not, ◌&&◌}
+use mathlib.Core.Bool.{Bool, true, false, not}
 use mathlib.Core.List.{List, [], ◌∷◌}
 use lib.Dec.{ltb}
 use lib.ListN.{length, get_or}
@@ -16,7 +16,7 @@ use Rattle.item.specs.declared.counters.Attempt.{Attempt}
 use Rattle.item.specs.declared.counters.Incarnation.{Incarnation}
 use Rattle.item.specs.declared.Item.{Item}
 use Rattle.item.specs.declared.Row.{Row}
-use Rattle.protocol.specs.Merge.{merge_row, merge_rows, lowest_marked}
+use Rattle.protocol.specs.Merge.{merge_row, merge_rows}
 use Rattle.protocol.specs.Node.{stored_row, rebuilt_row}
 use Rattle.protocol.specs.Sound.{every_from, row_fits, row_sound}
 use Rattle.protocol.specs.declared.RowUse.{RowUse}
@@ -110,16 +110,13 @@ unfolding row_fits
 unmarked_sound n k row e m =
     row_sound_is row_uses.Stored n k row (λ l. ap not m) (row_beyond row_uses.Fetched n k row e)
 
-pub rebuilt_sound : (n k : ℕ) (rows : List Row) → every_from (row_sound row_uses.Fetched n) k rows ≡ true → length rows ≤ lowest_marked rows
+pub rebuilt_sound : (n k : ℕ) (rows : List Row) → every_from (row_sound row_uses.Fetched n) k rows ≡ true
+    → ((j : ℕ) → j < length rows → (get_or rows j zero_row).marked ≡ false)
     → every_from (row_sound row_uses.Stored n) k rows ≡ true
-unfolding every_from lowest_marked
-rebuilt_sound n k [] e l = refl
-rebuilt_sound n k (row ∷ rows) e l =
-    by_cond (λ c. suc (length rows) ≤ c → (row_sound row_uses.Stored n k row && every_from (row_sound row_uses.Stored n) (suc k) rows) ≡ true)
-    row.marked zero (suc (lowest_marked rows))
-    (λ m z. absurd (omega arith))
-    (λ m z. and_both
-    (unmarked_sound n k row (and_left (row_sound row_uses.Fetched n k row) (every_from (row_sound row_uses.Fetched n) (suc k) rows) e) m)
+unfolding every_from
+rebuilt_sound n k [] e m = refl
+rebuilt_sound n k (row ∷ rows) e m =
+    and_both
+    (unmarked_sound n k row (and_left (row_sound row_uses.Fetched n k row) (every_from (row_sound row_uses.Fetched n) (suc k) rows) e) (m 0 (omega arith)))
     (rebuilt_sound n (suc k) rows (and_right (row_sound row_uses.Fetched n k row) (every_from (row_sound row_uses.Fetched n) (suc k) rows) e)
-    (omega arith)))
-    l
+    (λ j l. m (suc j) (omega arith)))

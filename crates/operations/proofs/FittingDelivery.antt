@@ -22,7 +22,8 @@ use Rattle.operations.specs.Fits.{CounterFits, PeerFits, NodeFits}
 use Rattle.operations.proofs.Fitting.{MessageFits, StepFits, zero_fits, set_any, merged_fit, none_fits, crashed_fits, ended_fits, own_fits, store_sent, by_refused, by_answer, by_quiet}
 use Rattle.protocol.specs.Answer.{ok, refused}
 use Rattle.protocol.specs.Deliver.{on_message, deliver_step}
-use Rattle.protocol.specs.Fetching.{on_fetch, on_table, table_counted, with_table, none_counted, node_recover, has_conflict, stopped, written_back}
+use Rattle.protocol.specs.Fetching.{on_fetch, on_table, table_counted, with_table, none_counted, stopped, written_back}
+use Rattle.protocol.proofs.Cases.{recover_cases}
 use Rattle.protocol.specs.Merge.{merge_rows}
 use Rattle.protocol.specs.Node.{row_of, own_item, stored_row, peer_of, blank_node, crashed, with_row, with_counted, confirming_begun, write_ended, with_rows, below_half, at_most_half, own_incarnation}
 use Rattle.protocol.specs.Phase.{is_up, is_fetching, is_storing, is_confirming}
@@ -111,12 +112,12 @@ module _ (node : Node) (N : NodeFits node) where
       (λ _. record { same_number = refl; same_size = refl; node_fits = ended_fits node N; sends_fit = tt })
 
   table_fits : StepFits node (table_counted node)
-  unfolding table_counted node_recover stopped written_back crashed blank_node
+  unfolding table_counted stopped written_back crashed blank_node
   table_fits =
       by_cond (StepFits node) (at_most_half node) _ _
       (λ _. by_quiet node node refl refl N)
-      (λ _. by_cond (StepFits node) (has_conflict node) _ _
-      (λ _. record { same_number = refl; same_size = refl; node_fits = crashed_fits node N; sends_fit = tt })
+      (λ _. recover_cases (StepFits node) node
+      (λ row _. record { same_number = refl; same_size = refl; node_fits = crashed_fits node N; sends_fit = tt })
       (λ _. store_sent node N (Returning Storing) (record { 0 = 1 }) (own_item node) (omega arith) (own_fits node N)))
 
   rows_fits : (rows : List Row) → ((j : ℕ) → ItemFits (get_or rows j zero_row).item) → NodeFits (with_rows node rows)

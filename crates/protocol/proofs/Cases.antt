@@ -1,7 +1,7 @@
 -- The cases of each decision: what holds of every refusal, and of what the definition gives where its tests pass, holds of
 -- the decision. By the named tests alone; no other proof opens a decision.
 use Prim.Native.Nat.{ℕ}
-use mathlib.Core.Path.{◌≡◌, sym, ◌∙◌}
+use mathlib.Core.Path.{◌≡◌, refl, sym, ap, ◌∙◌}
 use mathlib.Core.Bool.{true, false, ◌&&◌, false≢true}
 use mathlib.Core.List.{List}
 use Rattle.item.specs.Counter.{earlier, incarnation_at_largest, attempt_at_largest}
@@ -13,7 +13,9 @@ use Rattle.item.specs.declared.Item.{Item}
 use Rattle.item.specs.declared.Tag.{Tag}
 use Rattle.message.specs.declared.Message.TheVariants as message
 use Rattle.protocol.specs.Answer.{ok, refused, is_refused}
-use Rattle.protocol.specs.Fetching.{answers_fetch, on_fetch, with_table, has_conflict, stopped, written_back, node_recover, table_counted, on_table}
+use Rattle.protocol.specs.Fetching.{answers_fetch, on_fetch, with_table, has_conflict, stopped, written_back, recovered, node_recover, table_counted, on_table}
+use Rattle.protocol.specs.Merge.{lowest_marked}
+use Rattle.std.specs.Prelude.{Option, Some, None, is_some}
 use Rattle.protocol.specs.Node.{row_of, stored_row, crashed, started, with_row, with_counted, confirming_begun, below_half, at_most_half, own_incarnation}
 use Rattle.protocol.specs.Phase.{is_down, is_fetching, is_up, is_up_idle, is_storing, is_confirming, at_stage}
 use Rattle.protocol.specs.Storing.{store_verdict, reply_store, on_store, own_write, is_counted, send_confirm, stored_counted, on_stored, stored_under, on_confirm, asked_under, store_success, confirmed_counted, on_confirmed}
@@ -32,6 +34,16 @@ IfTaken P step = is_refused step.answer ≡ false → P step
 pub refusal_not_taken : (P : Step → Type 0) (node : Node) (why : Refusal) → IfTaken P (refused node why)
 unfolding refused is_refused
 refusal_not_taken P node why e = absurd (false≢true (sym e))
+
+-- with the (f + 1)-th table the node stops or writes back
+pub recover_cases : (P : Step → Type 0) (counted : Node) → ((row : ℕ) → has_conflict counted ≡ true → P (stopped counted row))
+    → (has_conflict counted ≡ false → P (send_store (written_back counted))) → P (node_recover counted)
+unfolding node_recover recovered has_conflict
+recover_cases P counted conflict last = go (lowest_marked counted.rows) refl
+  where
+    go : (r : Option ℕ) → lowest_marked counted.rows ≡ r → P (recovered r counted)
+    go None e = last (ap (λ (r : Option ℕ). is_some r) e)
+    go (Some row) e = conflict row (ap (λ (r : Option ℕ). is_some r) e)
 
 -- the four calls at a node
 module _ (P : Step → Type 0) (node : Node) (refusal : (why : Refusal) → P (refused node why)) where
@@ -129,16 +141,16 @@ module _ (P : Step → Type 0) (node : Node) (refusal : (why : Refusal) → P (r
   pub table_cases : (sender : ℕ) (incarnation other : Incarnation) (items : List Item)
       → let counted = with_table node sender incarnation items in
       (is_fetching node.phase ≡ true → own_incarnation node other ≡ true → at_most_half counted ≡ true → P (ok counted sends.Nothing))
-      → P (stopped counted)
+      → ((row : ℕ) → P (stopped counted row))
       → (is_fetching node.phase ≡ true → own_incarnation node other ≡ true
       → at_most_half counted ≡ false → has_conflict counted ≡ false → P (send_store (written_back counted)))
       → P (on_table node sender incarnation other items)
-  unfolding on_table table_counted node_recover
+  unfolding on_table table_counted
   table_cases sender incarnation other items h conflict last = by_cond P (is_fetching node.phase) _ _
       (λ e. by_cond P (own_incarnation node other) _ _
       (λ own. by_cond P (is_counted node sender) _ _ (λ c. refusal Counted)
       (λ c. by_cond P (at_most_half (with_table node sender incarnation items)) _ _
       (λ few. h e own few)
-      (λ few. by_cond P (has_conflict (with_table node sender incarnation items)) _ _ (λ c'. conflict) (λ c'. last e own few c'))))
+      (λ few. recover_cases P (with_table node sender incarnation items) (λ row _. conflict row) (last e own few))))
       (λ own. refusal Stale))
       (λ e. refusal NotTaken)

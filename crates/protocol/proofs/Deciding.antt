@@ -18,7 +18,8 @@ use Rattle.message.specs.declared.Message.{Message}
 use Rattle.message.specs.declared.Message.TheVariants as message
 use Rattle.protocol.specs.Answer.{ok, refused, refusal_number, is_refused}
 use Rattle.protocol.specs.Deliver.{on_message}
-use Rattle.protocol.specs.Fetching.{on_fetch, on_table, table_counted, with_table, node_recover, has_conflict, stopped, written_back}
+use Rattle.protocol.specs.Fetching.{on_fetch, on_table, table_counted, with_table, node_recover, recovered, stopped, written_back}
+use Rattle.protocol.specs.Merge.{lowest_marked}
 use Rattle.protocol.specs.Node.{row_of, with_counted, crashed, started, below_half, at_most_half, own_incarnation}
 use Rattle.protocol.specs.Phase.{is_down, is_up, is_up_idle, is_fetching, is_storing, is_confirming, is_returning}
 use Rattle.protocol.specs.Storing.{store_verdict, reply_store, on_store, own_write, is_counted, send_confirm, stored_counted, on_stored, stored_under, on_confirm, asked_under, end_answer, store_success, confirmed_counted, on_confirmed}
@@ -29,7 +30,7 @@ use Rattle.protocol.specs.declared.Refusal.{Refusal}
 use Rattle.protocol.specs.declared.Refusal.TheVariants.{WrongStage, AtLargest, NotTaken, Stale, Counted, LowerRank, OtherTag}
 use Rattle.protocol.specs.declared.Sends.{Sends}
 use Rattle.protocol.specs.declared.Step.{Step}
-use Rattle.std.specs.Prelude.{Result}
+use Rattle.std.specs.Prelude.{Option, Some, None, Result}
 
 -- ---- numbers of a list, found by a test
 
@@ -149,13 +150,15 @@ confirmed_refuses node =
     (by_cond (λ a. is_refused a ≡ false) (is_returning node.phase) (answer.Accepted _) (answer.Settled _) (λ _. refl) (λ _. refl)))
 
 table_refuses : (node : Node) → RefusesBy of_message (table_counted node)
-unfolding table_counted node_recover stopped send_store is_refused
+unfolding table_counted node_recover recovered stopped send_store is_refused
 table_refuses node =
     by_cond (RefusesBy of_message) (at_most_half node) _ _
     (λ _. by_ok of_message node _)
-    (λ _. by_cond (RefusesBy of_message) (has_conflict node) _ _
-    (λ _. by_none of_message (stopped node) refl)
-    (λ _. by_ok of_message (written_back node) _))
+    (λ _. by_recovery (lowest_marked node.rows))
+  where
+    by_recovery : (r : Option ℕ) → RefusesBy of_message (recovered r node)
+    by_recovery None = by_ok of_message (written_back node) _
+    by_recovery (Some row) = by_none of_message (stopped node row) refl
 
 pub on_message_refuses : (m : Message) (node : Node) (sender : ℕ) (i : Incarnation) (items : List Item) → RefusesBy of_message (on_message m node sender i items)
 unfolding on_message on_store on_stored on_confirm on_confirmed on_fetch on_table refusal_number

@@ -25,7 +25,7 @@ use Rattle.returns.specs.Replace.{replaced}
 use Rattle.returns.specs.View.{View, ViewNode, table_from, Sent, Each, each_nil, each_cons}
 use Rattle.protocol.specs.Answer.{ok}
 use Rattle.protocol.specs.Fetching.{on_fetch, none_counted, with_table, has_conflict, stopped, written_back, on_table}
-use Rattle.protocol.specs.Merge.{merge_row, lowest_marked}
+use Rattle.protocol.specs.Merge.{merge_row}
 use Rattle.protocol.specs.Node.{half, row_of, count_peers, crashed, blank_node, storing_begun, with_counted, with_rows, row_items}
 use Rattle.protocol.specs.Phase.{is_fetching}
 use Rattle.protocol.specs.Write.{send_store}
@@ -93,8 +93,8 @@ module _ {f n x k : ℕ} {g : View} {node : Node} (v : InView f n x k g node) (s
   -- no conflict: row x is not marked
   table_unmarked : has_conflict (with_table node s i items) ≡ false → (row_of (with_table node s i items) x).marked ≡ false
   unfolding has_conflict row_of
-  table_unmarked e = none_marked (with_table node s i items).rows x
-      (omega (arith, v.fits, v.x_below, ltb-false (lowest_marked (with_table node s i items).rows) max_nodes e))
+  table_unmarked e = none_marked (with_table node s i items).rows e x
+      (omega (arith, v.fits, v.x_below, (table_shaped node s i items v.placed.shaped).rows_length))
 
   enough_tables : s < n → suc (half (with_table node s i items).n) ≤ count_peers (with_table node s i items).counted
       → suc f ≤ count (replaced (g.node k).counted s true) (group_size f)
@@ -121,7 +121,7 @@ module _ {f n x k : ℕ} {g : View} {node : Node} (v : InView f n x k g node) (s
       table_cases (IfTaken (Delivered f x g k s)) node (refusal_not_taken (Delivered f x g k s) node) s i other items
       (λ e own few h. tied_nothing f x g k s (with_table node s i items) (numbered v) quiet
       (table_few l e (counts_table_lem other (seen x (with_table node s i items)) e own (sent _ (Memᴰ.head refl)) refl)))
-      (λ h. record {
+      (λ row h. record {
         changes = crash_seen node (with_table node s i items) v.view refl;
         sending = sends_nothing f x g k s (crashed (with_table node s i items)) (numbered v);
       })

@@ -146,9 +146,9 @@ module _ (n k : ℕ) (node : Node) (p : Placed n k node) where
   unfolding store_success
   success_placed back = (ended_placed n k node p, tt)
 
-  stopped_placed : (back : ℕ) → PlacedStep n k back (stopped node)
+  stopped_placed : (back row : ℕ) → PlacedStep n k back (stopped node row)
   unfolding stopped
-  stopped_placed back = (crashed_placed n k node p, tt)
+  stopped_placed back row = (crashed_placed n k node p, tt)
 
 module _ (n k : ℕ) (node : Node) (p : Placed n k node) where
   pub write_placed : (tag : Tag) → PlacedStep n k k (write_step node tag)

@@ -9,7 +9,10 @@ use mathlib.Core.List.{List, [], ◌∷◌}
 use lib.Dec.{eqb}
 use lib.ListN.{length, get_or, set, replicate}
 use lib.Seq.{get_or-set_same, get_or-set_other}
-use borrow.Author.Tests.{eqb-true, eqb-false}
+use borrow.Author.Tests.{eqb-true, eqb-false, ltb-false}
+use Rattle.std.specs.Prelude.{Option, is_some, nat_lt}
+use Rattle.std.specs.List.{position_or_len}
+use Rattle.std.proofs.lemmas.List.Sums.{fails_before_first}
 use Rattle.item.specs.Item.{zero_item, ranks_below, same_item}
 use Rattle.item.proofs.Laws.{same_item_lem}
 use Rattle.item.specs.Maxima.{max_nodes}
@@ -90,15 +93,14 @@ merge_merged v row first r same same_mark none =
     P : Row → Type 0
     P out = Merged v r out.item out.marked
 
--- no row below the lowest marked one is marked
-pub none_marked : (rows : List Row) (x : ℕ) → x < lowest_marked rows → (get_or rows x zero_row).marked ≡ false
+-- where there is no lowest marked row, no row is marked
+pub none_marked : (rows : List Row) → is_some (lowest_marked rows) ≡ false → (x : ℕ) → x < length rows → (get_or rows x zero_row).marked ≡ false
 unfolding lowest_marked
-none_marked [] x l = absurd (omega arith)
-none_marked (row ∷ rows) zero l =
-    by_cond (λ c. 0 < c → row.marked ≡ false) row.marked zero (suc (lowest_marked rows)) (λ e h. absurd (omega arith)) (λ e h. e) l
-none_marked (row ∷ rows) (suc x) l =
-    by_cond (λ c. suc x < c → (get_or rows x zero_row).marked ≡ false) row.marked zero (suc (lowest_marked rows))
-    (λ e h. absurd (omega arith)) (λ e h. none_marked rows x (omega arith)) l
+none_marked rows e x l =
+    by_cond (λ (r : Option ℕ). is_some r ≡ false → (get_or rows x zero_row).marked ≡ false)
+    (nat_lt (position_or_len (λ (row : Row). row.marked) rows) (length rows)) _ _
+    (λ t h. absurd (false≢true (sym h)))
+    (λ t h. fails_before_first (λ (row : Row). row.marked) rows x zero_row (omega (arith, ltb-false _ _ t))) e
 
 -- rows that are all zero
 zero_replicated : (m x : ℕ) → get_or (replicate m zero_row) x zero_row ≡ zero_row

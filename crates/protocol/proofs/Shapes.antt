@@ -100,9 +100,9 @@ module _ (node : Node) (s : Shaped node) where
   unfolding store_success
   success_shaped = ended_shaped node s
 
-stopped_shaped : (node : Node) → ShapedStep (stopped node)
+stopped_shaped : (node : Node) (row : ℕ) → ShapedStep (stopped node row)
 unfolding stopped
-stopped_shaped node = crashed_shaped node
+stopped_shaped node row = crashed_shaped node
 
 -- the calls
 pub write_shaped : (node : Node) (tag : Tag) → Shaped node → Shaped (write_step node tag).node

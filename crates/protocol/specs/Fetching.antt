@@ -1,6 +1,5 @@
 -- Delivery of Fetch and Table to one node (document 01, Deliver): the recovery.
-use Rattle.std.specs.Prelude.{ℕ, Bool, cond, List, ltb, eqb}
-use Rattle.item.specs.Maxima.{max_nodes}
+use Rattle.std.specs.Prelude.{ℕ, Bool, cond, List, eqb, Option, Some, None, is_some}
 use Rattle.item.specs.declared.counters.Incarnation.{Incarnation}
 use Rattle.item.specs.declared.Item.{Item}
 use Rattle.message.specs.declared.Message.TheVariants as message
@@ -38,21 +37,24 @@ with_table node sender incarnation items =
 
 -- "some row's greatest index comes with two tags"
 unfoldable pub has_conflict : Node → Bool
-has_conflict node = ltb (lowest_marked node.rows) max_nodes
+has_conflict node = is_some (lowest_marked node.rows)
 
 -- ""stopped" with the lowest such row, and the node is Down as by Crash"
-unfoldable pub stopped : Node → Step
-stopped node =
-    record { answer = answer.Stopped (lowest_marked node.rows); node = crashed node; sends = sends.Nothing }
+unfoldable pub stopped : Node → ℕ → Step
+stopped node row = record { answer = answer.Stopped row; node = crashed node; sends = sends.Nothing }
 
 -- "it is Returning: it writes back its own item under attempt 1, as Write does but with the index unchanged"
 unfoldable pub written_back : Node → Node
 written_back node = storing_begun node (Returning Storing) (record { 0 = 1 }) (own_item node)
 
--- node_recover, at f+1 tables: stopped, or "rows become the greatest items" and the write-back. Document 002's model
--- writes back first and rebuilds at the end; here the rows are rebuilt first.
+-- stopped, or "rows become the greatest items" and the write-back, by the lowest row whose greatest index comes with two tags
+unfoldable pub recovered : Option ℕ → Node → Step
+recovered None node = send_store (written_back node)
+recovered (Some row) node = stopped node row
+
+-- node_recover, at f+1 tables. Document 002's model writes back first and rebuilds at the end; here the rows are rebuilt first.
 unfoldable pub node_recover : Node → Step
-node_recover node = cond (has_conflict node) (stopped node) (send_store (written_back node))
+node_recover node = recovered (lowest_marked node.rows) node
 
 -- the sender's table is counted. "At f+1"
 unfoldable pub table_counted : Node → Step

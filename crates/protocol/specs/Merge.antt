@@ -1,5 +1,5 @@
 -- The greatest items of the tables counted so far, one for each row, and the rows whose greatest index came with two tags.
-use Rattle.std.specs.Prelude.{ℕ, zero, suc, Bool, true, cond, List, [], ◌∷◌}
+use Rattle.std.specs.Prelude.{ℕ, Bool, true, cond, List, [], ◌∷◌, Option, position}
 use Rattle.item.specs.Item.{ranks_below, same_item}
 use Rattle.item.specs.declared.Item.{Item}
 use Rattle.item.specs.declared.Row.{Row}
@@ -24,7 +24,6 @@ merge_rows first [] items = []
 merge_rows first (row ∷ rows) [] = row ∷ rows
 merge_rows first (row ∷ rows) (item ∷ items) = merge_row first row item ∷ merge_rows first rows items
 
--- the lowest marked row, or the number of rows where none is marked
-unfoldable pub lowest_marked : List Row → ℕ
-lowest_marked [] = zero
-lowest_marked (row ∷ rows) = cond row.marked zero (suc (lowest_marked rows))
+-- the lowest marked row, if one is marked
+unfoldable pub lowest_marked : List Row → Option ℕ
+lowest_marked rows = position (λ row. row.marked) rows

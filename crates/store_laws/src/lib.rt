@@ -4,6 +4,7 @@
 ghost use Rattle.store_laws.specs.Standing.{SoundMeans};
 
 // The test of soundness holds exactly of the stores that document 01's sentence describes.
+#[tactic(auto, using(crate::proofs::OnChains::sound_means))]
 pub fn soundness_means()
     ensures { SoundMeans }
 {}
