@@ -7,7 +7,7 @@ use Rattle.protocol.specs.Node.{rebuilt_row}
 
 -- the same row, marked
 abbrev pub marked_row : Row → Row
-marked_row row = record { item = row.item; incarnation = row.incarnation; attempt = row.attempt; marked = true }
+marked_row row = record row { marked = true }
 
 -- a row after one more table: "the first table is taken whole, and later a row is marked while its greatest index has
 -- come with two tags (the first tag is kept)"

@@ -1,5 +1,5 @@
 -- A node's fields, and every kind of change of a node, each by one definition. A change names only the fields that it
--- changes in its arguments; the others are handed on.
+-- changes; the others stay.
 use Rattle.std.specs.Prelude.{ℕ, suc, ◌/◌, Bool, false, List, map, ltb, get_or, set, replicate, count_by, Option, Some, None, is_some}
 use Rattle.item.specs.Maxima.{max_nodes}
 use Rattle.item.specs.Counter.{next_incarnation, same_incarnation}
@@ -81,9 +81,7 @@ crashed node = blank_node node.number node.n node.incarnation
 -- Start: "incarnation rises, Fetching"
 unfoldable pub started : Node → Node
 started node =
-    record {
-      number = node.number;
-      n = node.n;
+    record node {
       incarnation = next_incarnation node.incarnation;
       attempt = record { 0 = 0 };
       phase = Fetching;
@@ -95,10 +93,7 @@ started node =
 -- a write begins or begins again: "the own row takes the item with these counters, nothing is counted, Storing begins"
 unfoldable pub storing_begun : Node → Phase → Attempt → Item → Node
 storing_begun node phase attempt item =
-    record {
-      number = node.number;
-      n = node.n;
-      incarnation = node.incarnation;
+    record node {
       attempt = attempt;
       phase = phase;
       rows = set node.rows node.number (stored_row item node.incarnation attempt);
@@ -108,73 +103,23 @@ storing_begun node phase attempt item =
 
 -- "the row takes it": one row is replaced
 unfoldable pub with_row : Node → ℕ → Row → Node
-with_row node i row =
-    record {
-      number = node.number;
-      n = node.n;
-      incarnation = node.incarnation;
-      attempt = node.attempt;
-      phase = node.phase;
-      rows = set node.rows i row;
-      counted = node.counted;
-      asked = node.asked;
-    }
+with_row node i row = record node { rows = set node.rows i row }
 
 -- peer i is counted, under this incarnation
 unfoldable pub with_counted : Node → ℕ → Incarnation → Node
-with_counted node i incarnation =
-    record {
-      number = node.number;
-      n = node.n;
-      incarnation = node.incarnation;
-      attempt = node.attempt;
-      phase = node.phase;
-      rows = node.rows;
-      counted = set node.counted i (Some incarnation);
-      asked = node.asked;
-    }
+with_counted node i incarnation = record node { counted = set node.counted i (Some incarnation) }
 
 -- "At f counted: Confirming": those counted are asked, and none is counted
 unfoldable pub confirming_begun : Node → Phase → Node
-confirming_begun node phase =
-    record {
-      number = node.number;
-      n = node.n;
-      incarnation = node.incarnation;
-      attempt = node.attempt;
-      phase = phase;
-      rows = node.rows;
-      counted = no_peers;
-      asked = node.counted;
-    }
+confirming_begun node phase = record node { phase = phase; counted = no_peers; asked = node.counted }
 
 -- "At f: Idle": the write is settled, and a node that was Returning is Up
 unfoldable pub write_ended : Node → Node
-write_ended node =
-    record {
-      number = node.number;
-      n = node.n;
-      incarnation = node.incarnation;
-      attempt = node.attempt;
-      phase = Up Idle;
-      rows = node.rows;
-      counted = no_peers;
-      asked = no_peers;
-    }
+write_ended node = record node { phase = Up Idle; counted = no_peers; asked = no_peers }
 
 -- a table is counted: every row is replaced
 unfoldable pub with_rows : Node → List Row → Node
-with_rows node rows =
-    record {
-      number = node.number;
-      n = node.n;
-      incarnation = node.incarnation;
-      attempt = node.attempt;
-      phase = node.phase;
-      rows = rows;
-      counted = node.counted;
-      asked = node.asked;
-    }
+with_rows node rows = record node { rows = rows }
 
 -- Set up: "all nodes Up and Idle, incarnation 1, attempt 0, rows zero"
 unfoldable pub fresh_node : ℕ → ℕ → Node
