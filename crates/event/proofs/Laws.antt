@@ -10,7 +10,7 @@ use Rattle.record.specs.Layout.{record_of, rows_of}
 use Rattle.store.specs.Records.{on_records}
 use Rattle.store.specs.Change.{put_each, count_outgoing, drop_in}
 use Rattle.protocol.specs.Deliver.{deliver_step}
-use Rattle.protocol.specs.Answer.{is_refused}
+use Rattle.protocol.specs.Answer.{is_refused, refused}
 use Rattle.protocol.specs.Node.{row_items}
 use Rattle.protocol.specs.Outgoing.{outgoing}
 use Rattle.protocol.specs.Write.{write_step, retry_step, crash_step, start_step}
@@ -41,6 +41,10 @@ module _ (node : Node) (store : List ℕ) (free back : ℕ) (step : Step) where
   pub carried_refused : {why : Refusal} → step.answer ≡ answer.Refused why → carried_out node store free back step ≡ refuse why node store
   unfolding carried_out
   carried_refused e = rw e
+
+  pub carried_err : {why : Refusal} → refused node why ≡ step → carried_out node store free back step ≡ refuse why node store
+  unfolding carried_out refused
+  carried_err e = ap (carried_out node store free back) (sym e)
 
   pub carried_full : ((why : Refusal) → step.answer ≡ answer.Refused why → ⊥) → free < count_outgoing (outgoing step.node step.sends back) → carried_out node store free back step ≡ refuse NoRoom node store
   unfolding carried_out sent_by
