@@ -1,65 +1,51 @@
-// An event at one node by value, with the lent store: everything that decides. Nothing here touches the table: whoever
-// has it reads the node first and puts it back afterwards.
+// An event at one node, with the lent store: everything that decides. Nothing here touches the table: whoever has it reads
+// the node first and puts it back afterwards.
 #![tactic(auto)]
 
-ghost use Rattle.std.specs.Prelude.{◌≡◌};
-ghost use Rattle.event.specs.Act.{handed_back, at_node, on_sound, perform_at};
+ghost use Rattle.protocol.specs.Answer.{step_after};
+ghost use Rattle.event.specs.Act.{Gives, at_node, on_sound};
 
 use delivering::deliver_message;
 use engine::{crash, retry, start, write};
-pub use event::inspect::{drop_target, inspect, read};
-pub use event::{Inspection, NodeResult, drop_record};
-use event::{carry_out, drop_message, first_verdict, refused};
+use event::{carry_out, drop_message};
 use message::Envelope;
-use protocol::{Event, Node, Refusal, Step, Verdict};
+use protocol::{Answer, Event, Node, Refusal, Step};
+use store::Survey;
 
 // The decision of node `k`, where the group has this node.
-fn at_node(s: &mut [u8], node: Node, seen: Inspection, k: u64, step: Step) -> NodeResult
-    ensures { (result ≡ handed_back (at_node node s.old seen k step)) × (s.new ≡ (at_node node s.old seen k step).store) }
+fn at_node(
+    s: &mut [u8],
+    seen: Survey,
+    k: u64,
+    decision: Result<Step, Refusal>,
+    node: &mut Node,
+) -> Result<Answer, Refusal>
+    ensures { Gives (at_node node.old s.old seen k (step_after node.old decision)) result node.new s.new }
 {
     if seen.n <= k as usize {
-        return refused(Refusal::NoNode, node);
+        return Err(Refusal::NoNode);
     }
+    let step = decision?;
     carry_out(s, node, seen.free, k as usize, step)
 }
 
-// An event on a sound table and store, at its node.
-fn on_sound(
-    s: &mut [u8],
-    node: Node,
-    seen: Inspection,
-    reading: Option<Envelope>,
-    event: Event,
-) -> NodeResult
-    ensures { (result ≡ handed_back (on_sound event node s.old seen reading)) × (s.new ≡ (on_sound event node s.old seen reading).store) }
-{
-    match event {
-        Event::Write { node: k, tag } => at_node(s, node, seen, k, write(node, tag)),
-        Event::Retry { node: k } => at_node(s, node, seen, k, retry(node)),
-        Event::Crash { node: k } => at_node(s, node, seen, k, crash(node)),
-        Event::Start { node: k } => at_node(s, node, seen, k, start(node)),
-        Event::Drop { record } => NodeResult {
-            answer: drop_message(s, reading, record),
-            node: node,
-        },
-        Event::Deliver { record } => deliver_message(s, node, seen.free, reading, record),
-    }
-}
-
-// An event at its node: `seen` is what is seen of store and event, `reading` the message in its record, and
-// `sound_table` whether the table is sound.
+// An event at its node, where store and table are sound: `seen` is what is found in the store, and `reading` the message in
+// the event's record.
 pub fn act(
     s: &mut [u8],
-    node: Node,
-    sound_table: bool,
-    seen: Inspection,
+    node: &mut Node,
+    seen: Survey,
     reading: Option<Envelope>,
     event: Event,
-) -> NodeResult
-    ensures { (result ≡ handed_back (perform_at event sound_table seen reading node s.old)) × (s.new ≡ (perform_at event sound_table seen reading node s.old).store) }
+) -> Result<Answer, Refusal>
+    ensures { Gives (on_sound event node.old s.old seen reading) result node.new s.new }
 {
-    match first_verdict(s, sound_table, seen) {
-        Verdict::Refuse(why) => refused(why, node),
-        Verdict::Take => on_sound(s, node, seen, reading, event),
+    match event {
+        Event::Write { node: k, tag } => at_node(s, seen, k, write(*node, tag), node),
+        Event::Retry { node: k } => at_node(s, seen, k, retry(*node), node),
+        Event::Crash { node: k } => at_node(s, seen, k, crash(*node), node),
+        Event::Start { node: k } => at_node(s, seen, k, start(*node), node),
+        Event::Drop { record } => drop_message(s, reading, record),
+        Event::Deliver { record } => deliver_message(s, node, seen.free, reading, record),
     }
 }

@@ -1,32 +1,32 @@
 // Delivery of the message in a record of the store.
 #![tactic(auto)]
 
-ghost use Rattle.std.specs.Prelude.{◌≡◌};
 ghost use Rattle.record.specs.Layout.{record_of, rows_of};
 ghost use Rattle.protocol.specs.Fetching.{on_table};
-ghost use Rattle.event.specs.Act.{handed_back, carried_out, delivered};
+ghost use Rattle.event.specs.Act.{Gives, carried_out, delivered};
 
 use engine::{Decided, decide, on_table};
-use event::{NodeResult, carry_decision, carry_out, refused};
+use event::{carry_decision, carry_out};
 use item::Incarnation;
 use message::Envelope;
-use protocol::{Node, Refusal};
+use protocol::{Answer, Node, Refusal};
 use sender_view::view_of;
 
 // Delivery of the Table in record `r`, which the whole node decides.
+#[tactic(auto, unfolding(protocol::specs::Answer::step_after))]
 fn deliver_table(
     s: &mut [u8],
-    node: Node,
+    node: &mut Node,
     free: usize,
     r: usize,
     sender: usize,
     incarnation: Incarnation,
     other: Incarnation,
-) -> NodeResult
-    ensures { (result ≡ handed_back (carried_out node s.old free sender (on_table node sender incarnation other (rows_of (record_of s.old r))))) × (s.new ≡ (carried_out node s.old free sender (on_table node sender incarnation other (rows_of (record_of s.old r)))).store) }
+) -> Result<Answer, Refusal>
+    ensures { Gives (carried_out node.old s.old free sender (on_table node.old sender incarnation other (rows_of (record_of s.old r)))) result node.new s.new }
 {
     let items = record_read::rows(s, r);
-    let step = on_table(node, sender, incarnation, other, items);
+    let step = on_table(*node, sender, incarnation, other, items)?;
     carry_out(s, node, free, sender, step)
 }
 
@@ -35,21 +35,20 @@ fn deliver_table(
 #[tactic(auto, unfolding(engine::specs::Decided::decided_step, protocol::specs::Deliver::deliver_step))]
 pub fn deliver_message(
     s: &mut [u8],
-    node: Node,
+    node: &mut Node,
     free: usize,
     reading: Option<Envelope>,
     r: u64,
-) -> NodeResult
-    ensures { (result ≡ handed_back (delivered reading node s.old free r)) × (s.new ≡ (delivered reading node s.old free r).store) }
+) -> Result<Answer, Refusal>
+    ensures { Gives (delivered reading node.old s.old free r) result node.new s.new }
 {
     let Some(envelope) = reading else {
-        return refused(Refusal::NoMessage, node);
+        return Err(Refusal::NoMessage);
     };
     let sender = envelope.sender;
     let incarnation = envelope.incarnation;
-    let message = envelope.message;
     let view = view_of(node, sender);
-    match decide(view, incarnation, message) {
+    match decide(view, incarnation, envelope.message)? {
         Decided::Change(decision) => carry_decision(s, node, free, sender, decision),
         Decided::Table(other) => {
             deliver_table(s, node, free, r as usize, sender, incarnation, other)

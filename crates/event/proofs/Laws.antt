@@ -1,18 +1,16 @@
 -- What each definition of specs/Act gives in each case, as the code comes to it.
-use Prim.Native.Nat.{ℕ, ◌*◌, ◌≤◌, ◌<◌}
+use Prim.Native.Nat.{ℕ, ◌≤◌, ◌<◌}
 use mathlib.Core.Path.{◌≡◌, refl, sym, ap, ◌∙◌}
-use mathlib.Core.Logic.{◌≢◌}
-use mathlib.Core.Bool.{Bool, true, false}
+use mathlib.Core.Bool.{false}
 use mathlib.Core.List.{List}
-use borrow.Author.Tests.{lt-ltb, le-ltb, ne_eqb}
-use lib.ListN.{length}
+use borrow.Author.Tests.{lt-ltb, le-ltb}
 use Rattle.item.specs.declared.Tag.{Tag}
 use Rattle.message.specs.declared.Envelope.{Envelope}
-use Rattle.record.specs.Layout.{record_size, record_of, rows_of}
-use Rattle.store.specs.Records.{record_count, right_length, on_records}
+use Rattle.record.specs.Layout.{record_of, rows_of}
+use Rattle.store.specs.Records.{on_records}
 use Rattle.store.specs.Change.{put_each, count_outgoing, drop_in}
 use Rattle.protocol.specs.Deliver.{deliver_step}
-use Rattle.protocol.specs.Answer.{is_refused}
+use Rattle.protocol.specs.Answer.{is_refused, refused}
 use Rattle.protocol.specs.Node.{row_items}
 use Rattle.protocol.specs.Outgoing.{outgoing}
 use Rattle.protocol.specs.Write.{write_step, retry_step, crash_step, start_step}
@@ -21,30 +19,44 @@ use Rattle.protocol.specs.declared.Event.{Event}
 use Rattle.protocol.specs.declared.Event.TheVariants as event
 use Rattle.protocol.specs.declared.Node.{Node}
 use Rattle.protocol.specs.declared.Refusal.{Refusal}
-use Rattle.protocol.specs.declared.Refusal.TheVariants.{StoreLength, Unsound, NoNode, NoRoom, NoMessage}
+use Rattle.protocol.specs.declared.Refusal.TheVariants.{NoNode, NoRoom, NoMessage}
 use Rattle.protocol.specs.declared.Step.{Step}
-use Rattle.protocol.specs.declared.Verdict.{Verdict}
-use Rattle.protocol.specs.declared.Verdict.TheVariants.{Take, Refuse}
-use Rattle.event.specs.declared.Inspection.{Inspection}
-use Rattle.event.specs.Act.{drop_target_of, refuse, sent_by, carried_out, at_node, dropped, delivered, on_sound, first_verdict, admitted, perform_at}
+use Rattle.protocol.specs.declared.Answer.{Answer}
+use Rattle.store.specs.declared.Survey.{Survey}
+use Rattle.event.specs.Act.{Outcome, drop_target_of, refuse, sent_by, carried_out, at_node, dropped, delivered, on_sound}
 use Rattle.std.specs.Prelude.{None, Option, Some}
 
+-- what a call gives, from what the definition gives in its case
+pub given : {o p : Outcome} → o ≡ p → (p.answer ≡ o.answer) × (p.node ≡ o.node) × (p.store ≡ o.store)
+given e = (ap (λ (o : Outcome). o.answer) (sym e), ap (λ (o : Outcome). o.node) (sym e), ap (λ (o : Outcome). o.store) (sym e))
+
+not_refused : (a : Answer) → ((why : Refusal) → a ≡ answer.Refused why → ⊥) → is_refused a ≡ false
+not_refused answer.Ok d = refl
+not_refused (answer.Settled item) d = refl
+not_refused (answer.Accepted item) d = refl
+not_refused (answer.Stopped row) d = refl
+not_refused (answer.Refused why) d = absurd (d why refl)
+
 module _ (node : Node) (store : List ℕ) (free back : ℕ) (step : Step) where
-  pub carried_refused : is_refused step.answer ≡ true → carried_out node store free back step ≡ record { answer = step.answer; node = node; store = store }
+  pub carried_refused : {why : Refusal} → step.answer ≡ answer.Refused why → carried_out node store free back step ≡ refuse why node store
   unfolding carried_out
   carried_refused e = rw e
 
-  pub carried_full : is_refused step.answer ≡ false → free < count_outgoing (outgoing step.node step.sends back) → carried_out node store free back step ≡ refuse NoRoom node store
-  unfolding carried_out sent_by
-  carried_full e h = rw (e, lt-ltb free (count_outgoing (outgoing step.node step.sends back)) h)
+  pub carried_err : {why : Refusal} → refused node why ≡ step → carried_out node store free back step ≡ refuse why node store
+  unfolding carried_out refused
+  carried_err e = ap (carried_out node store free back) (sym e)
 
-  pub carried_sent : is_refused step.answer ≡ false → count_outgoing (outgoing step.node step.sends back) ≤ free
+  pub carried_full : ((why : Refusal) → step.answer ≡ answer.Refused why → ⊥) → free < count_outgoing (outgoing step.node step.sends back) → carried_out node store free back step ≡ refuse NoRoom node store
+  unfolding carried_out sent_by
+  carried_full e h = rw (not_refused step.answer e, lt-ltb free (count_outgoing (outgoing step.node step.sends back)) h)
+
+  pub carried_sent : ((why : Refusal) → step.answer ≡ answer.Refused why → ⊥) → count_outgoing (outgoing step.node step.sends back) ≤ free
       → carried_out node store free back step
       ≡ record { answer = step.answer; node = step.node; store = on_records (λ rs. put_each rs (outgoing step.node step.sends back) (row_items step.node)) store }
   unfolding carried_out sent_by
-  carried_sent e h = rw (e, le-ltb free (count_outgoing (outgoing step.node step.sends back)) h)
+  carried_sent e h = rw (not_refused step.answer e, le-ltb free (count_outgoing (outgoing step.node step.sends back)) h)
 
-module _ (node : Node) (store : List ℕ) (seen : Inspection) (k : ℕ) (step : Step) where
+module _ (node : Node) (store : List ℕ) (seen : Survey) (k : ℕ) (step : Step) where
   pub at_none : seen.n ≤ k → at_node node store seen k step ≡ refuse NoNode node store
   unfolding at_node
   at_none h = rw (le-ltb k seen.n h)
@@ -72,7 +84,7 @@ module _ (node : Node) (store : List ℕ) (r : ℕ) {m : Option Envelope} where
   delivered_some free {e} step em es =
       ap (λ (k : Option Envelope). delivered k node store free r) em ∙ ap (carried_out node store free e.sender) (sym es)
 
-module _ (node : Node) (store : List ℕ) (seen : Inspection) (reading : Option Envelope) {e : Event} where
+module _ (node : Node) (store : List ℕ) (seen : Survey) (reading : Option Envelope) {e : Event} where
   pub sound_write : {k : ℕ} {tag : Tag} (step : Step) → e ≡ event.Write k tag → step ≡ write_step node tag → on_sound e node store seen reading ≡ at_node node store seen k step
   unfolding on_sound
   sound_write {k} step p q = ap (λ (v : Event). on_sound v node store seen reading) p ∙ ap (at_node node store seen k) (sym q)
@@ -97,32 +109,6 @@ module _ (node : Node) (store : List ℕ) (seen : Inspection) (reading : Option 
   unfolding on_sound
   sound_deliver p = ap (λ (v : Event). on_sound v node store seen reading) p
 
-module _ (store : List ℕ) (t : Bool) (seen : Inspection) where
-  pub first_length : length store ≢ record_count * record_size → first_verdict store t seen ≡ Refuse StoreLength
-  unfolding first_verdict right_length
-  first_length d = rw (ne_eqb (length store) (record_count * record_size) d)
-
-  pub first_store : right_length store ≡ true → seen.sound ≡ false → first_verdict store t seen ≡ Refuse Unsound
-  unfolding first_verdict
-  first_store p q = rw (p, q)
-
-  pub first_table : right_length store ≡ true → seen.sound ≡ true → t ≡ false → first_verdict store t seen ≡ Refuse Unsound
-  unfolding first_verdict
-  first_table p q h = rw (p, q, h)
-
-  pub first_taken : right_length store ≡ true → seen.sound ≡ true → t ≡ true → first_verdict store t seen ≡ Take
-  unfolding first_verdict
-  first_taken p q h = rw (p, q, h)
-
-  module _ (reading : Option Envelope) (e : Event) (node : Node) where
-    pub acted_refused : {why : Refusal} → first_verdict store t seen ≡ Refuse why → perform_at e t seen reading node store ≡ refuse why node store
-    unfolding perform_at admitted
-    acted_refused p = ap (λ (v : Verdict). admitted v node store (on_sound e node store seen reading)) p
-
-    pub acted_taken : first_verdict store t seen ≡ Take → perform_at e t seen reading node store ≡ on_sound e node store seen reading
-    unfolding perform_at admitted
-    acted_taken p = ap (λ (v : Verdict). admitted v node store (on_sound e node store seen reading)) p
-
 -- ---- a Drop looks at no node
 
 pub dropped_node : (m : Option Envelope) (node : Node) (store : List ℕ) (r : ℕ) → (dropped m node store r).node ≡ node
@@ -130,19 +116,11 @@ unfolding dropped
 dropped_node None node store r = refl
 dropped_node (Some e) node store r = refl
 
-pub drop_node : (r : ℕ) (t : Bool) (seen : Inspection) (reading : Option Envelope) (node : Node) (store : List ℕ) → (perform_at (event.Drop r) t seen reading node store).node ≡ node
-unfolding perform_at admitted on_sound
-drop_node r t seen reading node store = go (first_verdict store t seen)
-  where
-    go : (v : Verdict) → (admitted v node store (on_sound (event.Drop r) node store seen reading)).node ≡ node
-    go (Refuse why) = refl
-    go Take = dropped_node reading node store r
-
-pub drop_target_is : (e : Event) → (drop_target_of e).drops ≡ true → e ≡ event.Drop (drop_target_of e).number
+pub drop_target_is : (e : Event) {r : ℕ} → drop_target_of e ≡ Some r → e ≡ event.Drop r
 unfolding drop_target_of
 drop_target_is (event.Write k tag) p = cc
 drop_target_is (event.Retry k) p = cc
 drop_target_is (event.Crash k) p = cc
 drop_target_is (event.Start k) p = cc
-drop_target_is (event.Drop r) p = refl
+drop_target_is (event.Drop r) p = cc
 drop_target_is (event.Deliver r) p = cc

@@ -1,7 +1,6 @@
--- An event at one node by value, with the store: the shape of `perform`, where the table is one node and a mark whether
--- the table is sound.
-use Rattle.std.specs.Prelude.{ℕ, Bool, true, false, cond, ◌&&◌, List, ltb, None, Option, Some}
-use Rattle.message.specs.declared.Outgoing.{Outgoing}
+-- An event on a sound table and store at one node by value, with the store: the shape of `perform`, where the table is one
+-- node.
+use Rattle.std.specs.Prelude.{ℕ, ◌≡◌, cond, List, ltb, None, Option, Some, Result, Ok, Err, ok_or}
 use Rattle.record.specs.Layout.{record_of, rows_of}
 use Rattle.store.specs.Records.{right_length, on_records}
 use Rattle.store.specs.Sound.{survey, message_at}
@@ -19,11 +18,7 @@ use Rattle.protocol.specs.declared.Node.{Node}
 use Rattle.protocol.specs.declared.Refusal.{Refusal}
 use Rattle.protocol.specs.declared.Refusal.TheVariants.{StoreLength, Unsound, NoNode, NoRoom, NoMessage}
 use Rattle.protocol.specs.declared.Step.{Step}
-use Rattle.protocol.specs.declared.Verdict.{Verdict}
-use Rattle.protocol.specs.declared.Verdict.TheVariants.{Take, Refuse}
-use Rattle.event.specs.declared.NodeResult.{NodeResult}
-use Rattle.event.specs.declared.DropTarget.{DropTarget}
-use Rattle.event.specs.declared.Inspection.{Inspection}
+use Rattle.store.specs.declared.Survey.{Survey}
 use Rattle.message.specs.declared.Envelope.{Envelope}
 
 -- ---- before the table is read
@@ -51,27 +46,18 @@ place_of (event.Start k) reading = k
 place_of (event.Drop r) reading = addressee_of reading
 place_of (event.Deliver r) reading = addressee_of reading
 
--- what is seen of store and event, where this is read of its record
-unfoldable pub inspection_of : Event → List ℕ → Option Envelope → Inspection
-inspection_of e store reading =
-    record {
-      sound = (survey store).sound;
-      n = (survey store).n;
-      free = (survey store).free;
-      place = place_of e reading;
-    }
+-- which record an event drops, if it is a Drop
+unfoldable pub drop_target_of : Event → Option ℕ
+drop_target_of (event.Write k tag) = None
+drop_target_of (event.Retry k) = None
+drop_target_of (event.Crash k) = None
+drop_target_of (event.Start k) = None
+drop_target_of (event.Drop r) = Some r
+drop_target_of (event.Deliver r) = None
 
-abbrev pub no_drop : DropTarget
-no_drop = record { drops = false; number = 0 }
-
--- which record an event drops
-unfoldable pub drop_target_of : Event → DropTarget
-drop_target_of (event.Write k tag) = no_drop
-drop_target_of (event.Retry k) = no_drop
-drop_target_of (event.Crash k) = no_drop
-drop_target_of (event.Start k) = no_drop
-drop_target_of (event.Drop r) = record { drops = true; number = r }
-drop_target_of (event.Deliver r) = no_drop
+-- "2 as above; 3: store or table unsound": what is found in the store
+unfoldable pub checked : List ℕ → Result Survey Refusal
+checked store = cond (right_length store) (ok_or (survey store) Unsound) (Err StoreLength)
 
 -- ---- one node and the store
 
@@ -81,18 +67,20 @@ pub record Outcome : Type 0 where
   pub node : Node
   pub store : List ℕ
 
--- the part of it that is handed back; the store is lent
-abbrev pub handed_back : Outcome → NodeResult
-handed_back o = record { answer = o.answer; node = o.node }
+-- the answer of a call that may be refused
+abbrev pub answered : Result Answer Refusal → Answer
+answered (Ok answer) = answer
+answered (Err why) = answer.Refused why
 
-abbrev pub refused_with : Refusal → Node → NodeResult
-refused_with why node = record { answer = answer.Refused why; node = node }
+-- what a call answers, and the node and the store that it leaves, are an outcome's
+abbrev pub Gives : Outcome → Result Answer Refusal → Node → List ℕ → Type 0
+Gives o result node store = (answered result ≡ o.answer) × (node ≡ o.node) × (store ≡ o.store)
 
 abbrev pub refuse : Refusal → Node → List ℕ → Outcome
 refuse why node store = record { answer = answer.Refused why; node = node; store = store }
 
 -- "7: too few free records for what it would send"
-unfoldable pub sent_by : Node → List ℕ → ℕ → Step → List Outgoing → Outcome
+unfoldable pub sent_by : Node → List ℕ → ℕ → Step → List (Option Envelope) → Outcome
 sent_by node store free step out =
     cond (ltb free (count_outgoing out)) (refuse NoRoom node store)
     (record {
@@ -108,9 +96,9 @@ carried_out node store free back step =
     (sent_by node store free step (outgoing step.node step.sends back))
 
 -- "4: node number not below n, where one is given"
-unfoldable pub at_node : Node → List ℕ → Inspection → ℕ → Step → Outcome
-at_node node store look k step =
-    cond (ltb k look.n) (carried_out node store look.free k step) (refuse NoNode node store)
+unfoldable pub at_node : Node → List ℕ → Survey → ℕ → Step → Outcome
+at_node node store seen k step =
+    cond (ltb k seen.n) (carried_out node store seen.free k step) (refuse NoNode node store)
 
 -- "8: not on an inbox chain"
 unfoldable pub dropped : Option Envelope → Node → List ℕ → ℕ → Outcome
@@ -124,24 +112,10 @@ delivered (Some e) node store free r =
     carried_out node store free e.sender (deliver_step node e (rows_of (record_of store r)))
 
 -- an event on a sound table and store
-unfoldable pub on_sound : Event → Node → List ℕ → Inspection → Option Envelope → Outcome
-on_sound (event.Write k tag) node store look reading = at_node node store look k (write_step node tag)
-on_sound (event.Retry k) node store look reading = at_node node store look k (retry_step node)
-on_sound (event.Crash k) node store look reading = at_node node store look k (crash_step node)
-on_sound (event.Start k) node store look reading = at_node node store look k (start_step node)
-on_sound (event.Drop r) node store look reading = dropped reading node store r
-on_sound (event.Deliver r) node store look reading = delivered reading node store look.free r
-
--- "2 as above; 3: store or table unsound"
-unfoldable pub first_verdict : List ℕ → Bool → Inspection → Verdict
-first_verdict store sound_table look =
-    cond (right_length store) (cond (look.sound && sound_table) Take (Refuse Unsound)) (Refuse StoreLength)
-
--- "then 4": what comes of an event that nothing refuses before
-unfoldable pub admitted : Verdict → Node → List ℕ → Outcome → Outcome
-admitted (Refuse why) node store o = refuse why node store
-admitted Take node store o = o
-
-unfoldable pub perform_at : Event → Bool → Inspection → Option Envelope → Node → List ℕ → Outcome
-perform_at e sound_table look reading node store =
-    admitted (first_verdict store sound_table look) node store (on_sound e node store look reading)
+unfoldable pub on_sound : Event → Node → List ℕ → Survey → Option Envelope → Outcome
+on_sound (event.Write k tag) node store seen reading = at_node node store seen k (write_step node tag)
+on_sound (event.Retry k) node store seen reading = at_node node store seen k (retry_step node)
+on_sound (event.Crash k) node store seen reading = at_node node store seen k (crash_step node)
+on_sound (event.Start k) node store seen reading = at_node node store seen k (start_step node)
+on_sound (event.Drop r) node store seen reading = dropped reading node store r
+on_sound (event.Deliver r) node store seen reading = delivered reading node store seen.free r

@@ -1,8 +1,7 @@
 // What is found in store and event before the table is read.
 ghost use Rattle.std.specs.Prelude.{◌≡◌};
-ghost use Rattle.event.specs.Act.{reading_of, addressee_of, place_of, no_drop, drop_target_of, inspection_of};
+ghost use Rattle.event.specs.Act.{reading_of, addressee_of, place_of, drop_target_of};
 
-use crate::{DropTarget, Inspection};
 use message::Envelope;
 use protocol::Event;
 
@@ -19,7 +18,7 @@ fn addressee(reading: Option<Envelope>) -> usize
 
 // Whose event it is: the node number given, or the addressee of the message.
 #[tactic(auto, unfolding(crate::specs::Act::place_of))]
-fn place(event: Event, reading: Option<Envelope>) -> usize
+pub fn place(event: Event, reading: Option<Envelope>) -> usize
     ensures { result ≡ place_of event reading }
 {
     match event {
@@ -32,31 +31,14 @@ fn place(event: Event, reading: Option<Envelope>) -> usize
     }
 }
 
-// It is not a Drop.
-fn no_drop() -> DropTarget
-    ensures { result ≡ no_drop }
-{
-    DropTarget {
-        drops: false,
-        number: 0,
-    }
-}
-
-// Which record the event drops.
+// Which record the event drops, if it is a Drop.
 #[tactic(auto, unfolding(crate::specs::Act::drop_target_of))]
-pub fn drop_target(event: Event) -> DropTarget
+pub fn drop_target(event: Event) -> Option<u64>
     ensures { result ≡ drop_target_of event }
 {
     match event {
-        Event::Write { node: _, tag: _ } => no_drop(),
-        Event::Retry { node: _ } => no_drop(),
-        Event::Crash { node: _ } => no_drop(),
-        Event::Start { node: _ } => no_drop(),
-        Event::Drop { record } => DropTarget {
-            drops: true,
-            number: record,
-        },
-        Event::Deliver { record: _ } => no_drop(),
+        Event::Drop { record } => Some(record),
+        _ => None,
     }
 }
 
@@ -66,26 +48,8 @@ pub fn read(s: &[u8], event: Event) -> Option<Envelope>
     ensures { result ≡ reading_of event s.now }
 {
     match event {
-        Event::Write { node: _, tag: _ } => None,
-        Event::Retry { node: _ } => None,
-        Event::Crash { node: _ } => None,
-        Event::Start { node: _ } => None,
         Event::Drop { record } => store_access::message(s, record),
         Event::Deliver { record } => store_access::message(s, record),
-    }
-}
-
-// What is seen of store and event, where `reading` is the message in the event's record.
-#[tactic(auto, unfolding(crate::specs::Act::inspection_of))]
-pub fn inspect(s: &[u8], event: Event, reading: Option<Envelope>) -> Inspection
-    ensures { result ≡ inspection_of event s.now reading }
-{
-    let survey = store_check::check_store(s);
-    let whose = place(event, reading);
-    Inspection {
-        sound: survey.sound,
-        n: survey.n,
-        free: survey.free,
-        place: whose,
+        _ => None,
     }
 }

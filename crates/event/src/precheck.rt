@@ -1,22 +1,17 @@
-// What refuses every event before its node or its record is read: refusals 2 and 3.
+// What refuses every event before its node or its record is read: refusal 2, and 3 of the store.
 ghost use Rattle.std.specs.Prelude.{◌≡◌};
-ghost use Rattle.event.specs.Act.{first_verdict};
+ghost use Rattle.event.specs.Act.{checked};
 
-use crate::Inspection;
-use protocol::{Refusal, Verdict};
+use protocol::Refusal;
+use store::Survey;
 
-// Refused are an event on a store that has not its length (2), and one on a store or table that is not sound (3).
-pub fn first_verdict(s: &[u8], sound_table: bool, seen: Inspection) -> Verdict
-    ensures { result ≡ first_verdict s.now sound_table seen }
+// What is found in the store. Refused are one that has not its length (2), and one that is not sound (3).
+#[tactic(auto, unfolding(crate::specs::Act::checked, store::specs::Records::right_length))]
+pub fn check(s: &[u8]) -> Result<Survey, Refusal>
+    ensures { result ≡ checked s.now }
 {
     if s.len() != store::LENGTH {
-        return Verdict::Refuse(Refusal::StoreLength);
+        return Err(Refusal::StoreLength);
     }
-    if !seen.sound {
-        return Verdict::Refuse(Refusal::Unsound);
-    }
-    if !sound_table {
-        return Verdict::Refuse(Refusal::Unsound);
-    }
-    Verdict::Take
+    store_check::check_store(s).ok_or(Refusal::Unsound)
 }

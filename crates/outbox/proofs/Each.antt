@@ -1,11 +1,11 @@
 -- A turn of the loop over the messages of a decision, and its end.
 use Prim.Native.Nat.{ℕ}
 use mathlib.Core.Path.{◌≡◌, refl, sym, ap, ◌∙◌}
-use mathlib.Core.Bool.{Bool, true, false, cond}
+use mathlib.Core.Bool.{Bool, true, false}
 use mathlib.Core.List.{List, [], ◌∷◌}
 use Rattle.item.specs.declared.Item.{Item}
-use Rattle.item.specs.Tests.{by_cond}
-use Rattle.message.specs.declared.Outgoing.{Outgoing}
+use Rattle.message.specs.declared.Envelope.{Envelope}
+use Rattle.std.specs.Prelude.{None, Option, Some}
 use Rattle.store.specs.Records.{right_length, records_of, joined, on_records}
 use Rattle.store.proofs.Joined.{records_count, records_sized, joined_records, right_after}
 use Rattle.store.proofs.Locality.{Local, local_after, put_local}
@@ -36,21 +36,30 @@ on_same s false e = on_wrong (λ rs. rs) s e
 
 -- ---- a turn and the end
 
-module _ {all : List Outgoing} (s : List ℕ) (rows : List Item) where
-  pub put_turn : (o : Outgoing) (os : List Outgoing) (s' : List ℕ) → all ≡ o ∷ os
-      → s' ≡ cond o.present (on_records (λ rs. put_in rs o.envelope rows) s) s
-      → on_records (λ rs. put_each rs all rows) s ≡ on_records (λ rs. put_each rs os rows) s'
+module _ (s : List ℕ) (rows : List Item) where
+  put_one : (o : Option Envelope) (os : List (Option Envelope))
+      → on_records (λ rs. put_each rs (o ∷ os) rows) s ≡ on_records (λ rs. put_each rs os rows) (on_records (λ rs. put_each rs (o ∷ []) rows) s)
   unfolding put_each
+  put_one None os = ap (on_records (λ rs. put_each rs os rows)) (sym (on_same s (right_length s) refl))
+  put_one (Some e) os =
+      sym (on_both (λ rs. put_in rs e rows) (λ rs. put_each rs os rows) s (put_local (records_of s) e rows) (right_length s) refl)
+
+  -- where nothing is sent nothing is put
+  pub put_none : {o : Option Envelope} → o ≡ None → s ≡ on_records (λ rs. put_each rs (o ∷ []) rows) s
+  unfolding put_each
+  put_none e = sym ((λ j. on_records (λ rs. put_each rs (e j ∷ []) rows) s) ∙ on_same s (right_length s) refl)
+
+  pub put_some : {o : Option Envelope} {e : Envelope} (s' : List ℕ) → o ≡ Some e → s' ≡ on_records (λ rs. put_in rs e rows) s
+      → s' ≡ on_records (λ rs. put_each rs (o ∷ []) rows) s
+  unfolding put_each
+  put_some s' p e = e ∙ sym (λ j. on_records (λ rs. put_each rs (p j ∷ []) rows) s)
+
+module _ {all : List (Option Envelope)} (s : List ℕ) (rows : List Item) where
+  pub put_turn : (o : Option Envelope) (os : List (Option Envelope)) (s' : List ℕ) → all ≡ o ∷ os
+      → s' ≡ on_records (λ rs. put_each rs (o ∷ []) rows) s
+      → on_records (λ rs. put_each rs all rows) s ≡ on_records (λ rs. put_each rs os rows) s'
   put_turn o os s' here e =
-      (λ j. on_records (λ rs. put_each rs (here j) rows) s)
-      ∙ by_cond (λ (q : List ℕ). on_records (λ rs. put_each (cond o.present (put rs) rs) os rows) s ≡ on_records (λ rs. put_each rs os rows) q) o.present _ _
-      (λ p. (λ j. on_records (λ rs. put_each (cond (p j) (put rs) rs) os rows) s)
-      ∙ sym (on_both put (λ rs. put_each rs os rows) s (put_local (records_of s) o.envelope rows) (right_length s) refl))
-      (λ p j. on_records (λ rs. put_each (cond (p j) (put rs) rs) os rows) s)
-      ∙ ap (on_records (λ rs. put_each rs os rows)) (sym e)
-    where
-      put : List (List ℕ) → List (List ℕ)
-      put rs = put_in rs o.envelope rows
+      (λ j. on_records (λ rs. put_each rs (here j) rows) s) ∙ put_one s rows o os ∙ ap (on_records (λ rs. put_each rs os rows)) (sym e)
 
   pub put_end : all ≡ [] → on_records (λ rs. put_each rs all rows) s ≡ s
   unfolding put_each

@@ -1,12 +1,13 @@
 // What a decision sends: to whom, what, how many messages, and the items that go with a Table. No array of messages is
 // built, as most decisions send one or none.
-ghost use Rattle.std.specs.Prelude.{◌≡◌, option_map};
+ghost use Rattle.std.specs.Prelude.{◌≡◌, map, option_map};
+ghost use Rattle.item.specs.declared.Row.{Row};
 ghost use Rattle.message.specs.declared.Message.TheVariants.{Confirm};
 ghost use Rattle.protocol.specs.Node.{peer_of, row_items};
 ghost use Rattle.protocol.specs.Outgoing.{message_to, outgoing_to, outgoing};
 ghost use Rattle.store.specs.Change.{count_outgoing};
 
-use item::{Attempt, Item};
+use item::{Attempt, Item, Row};
 use message::{Envelope, Message};
 use node::peer_of;
 use protocol::{Node, Sends};
@@ -65,10 +66,22 @@ pub fn count_sent(node: &Node, sends: Sends, back: usize) -> usize
     count
 }
 
+// The items of rows.
+// Kept: a loop, since of `rows.map(|row| row.item)` no proof closed (tried from `map`'s clause, item by item).
+fn items_of(rows: &[Row; item::MAX_NODES]) -> [Item; item::MAX_NODES]
+    ensures { result ≡ map (λ (row : Row). row.item) rows.now }
+{
+    let mut items = [Item::zero(); item::MAX_NODES];
+    for (i, row) in rows.iter().enumerate() {
+        items[i] = row.item;
+    }
+    items
+}
+
 // The items of the node's rows.
 #[tactic(auto, unfolding(protocol::specs::Node::row_items))]
 pub fn row_items(node: &Node) -> [Item; item::MAX_NODES]
     ensures { result ≡ row_items node.now }
 {
-    node.rows.map(|row| row.item)
+    items_of(&node.rows)
 }

@@ -1,17 +1,16 @@
 -- `event::drop::drop_message` meets its contract.
-use Rattle.event.proofs.Laws.{dropped_none, dropped_some}
-use Rattle.event.specs.Act.{Outcome}
-use mathlib.Core.Path.{sym, ap, ◌∙◌}
+use Rattle.event.proofs.Laws.{given, dropped_none, dropped_some}
+use mathlib.Core.Path.{◌∙◌}
 use Rattle.event.proofs.drop.drop_message.Goals as goal
 
 pub returns-in_default : goal.returns-in_default
 returns-in_default c node =
     let a = c.args in
-    let e = dropped_none node a.s.now a.r c.in_default.is in
-    (ap (λ (o : Outcome). o.answer) (sym e), ap (λ (o : Outcome). o.store) (sym e))
+    let e = given (dropped_none node a.s.now a.r c.in_default.is) in
+    (e.0, e.2)
 
 pub returns : goal.returns
 returns c node =
     let a = c.args in
-    let e = dropped_some node a.s.now a.r c.in-Found.is in
-    (ap (λ (o : Outcome). o.answer) (sym e), c.drop_message.ensures ∙ ap (λ (o : Outcome). o.store) (sym e))
+    let e = given (dropped_some node a.s.now a.r c.in-Some.is) in
+    (e.0, c.drop_message.ensures ∙ e.2)

@@ -1,16 +1,23 @@
 use mathlib.Core.Path.{ap, ◌∙◌}
-use mathlib.Core.Bool.{Bool, cond}
+use mir.Val.{bool_byte}
 use native.Mathlib.Omega.{arith}
+use Rattle.std.specs.Prelude.{is_some}
 use Rattle.protocol.specs.Outgoing.{outgoing}
-use Rattle.outbox.proofs.Places.{count_turn, count_end}
+use Rattle.outbox.proofs.Places.{at_most_one, count_turn, count_end}
 use Rattle.outbox.proofs.outgoing.count_sent.Goals as goal
 
 pub loop-k-init : goal.loop-k-init
 unfolding outgoing
-loop-k-init c = (omega arith, omega arith, omega arith)
+loop-k-init c = (omega arith, omega arith)
 
 pub loop-k-preserved : goal.loop-k-preserved
-loop-k-preserved c = let l = c.loop-k in let a = c.args in let e = c.one_if-count.ensures.0 ∙ ap (λ (b : Bool). cond b 1 0) c.is_sent-sent.ensures in (omega arith, omega (arith, c.one_if-count.ensures.1), omega (arith, l.invariant.2, count_turn a.node a.sends a.back l.k c.one_if-count.result (omega arith) e))
+loop-k-preserved c =
+    let l = c.loop-k in
+    let a = c.args in
+    let one = c.from-count.ensures ∙ ap bool_byte (c.is_some.ensures ∙ ap is_some c.outgoing_to.ensures) in (
+      omega (arith, l.invariant.0, c.from-count.ensures, at_most_one c.is_some.result),
+      omega (arith, l.invariant.1, one, count_turn a.node.now a.sends a.back l.k c.loop-k-test.true),
+    )
 
 pub returns : goal.returns
-returns c = let l = c.loop-k in let a = c.args in omega (arith, l.invariant.2, count_end a.node a.sends a.back l.k (omega arith))
+returns c = let l = c.loop-k in let a = c.args in omega (arith, l.invariant.1, count_end a.node.now a.sends a.back l.k c.loop-k-test.false)
