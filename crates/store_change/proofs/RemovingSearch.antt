@@ -15,9 +15,11 @@ module _ (rs : List (List ℕ)) (i next : ℕ) (en : next ≡ next_in rs i) wher
       let k : left ≡ suc (left - 1) = omega arith in
       ap (λ (m : ℕ). before_from m rs r i) k ∙ rw (ne_eqb i 0 d, ← en, eq-eqb next r e)
 
-  pub before_turn : (left left' r : ℕ) → left ≡ suc left' → i ≢ 0 → next ≢ r → before_from left rs r i ≡ before_from left' rs r next
+  pub before_turn : (left r : ℕ) → 0 < left → i ≢ 0 → next ≢ r → before_from left rs r i ≡ before_from (left - 1) rs r next
   unfolding before_from
-  before_turn left left' r k d e = ap (λ (m : ℕ). before_from m rs r i) k ∙ rw (ne_eqb i 0 d, ← en, ne_eqb next r e)
+  before_turn left r h d e =
+      let k : left ≡ suc (left - 1) = omega arith in
+      ap (λ (m : ℕ). before_from m rs r i) k ∙ rw (ne_eqb i 0 d, ← en, ne_eqb next r e)
 
 pub before_end : (rs : List (List ℕ)) (i r left : ℕ) → i ≡ 0 → before_from left rs r i ≡ 0
 unfolding before_from

@@ -7,22 +7,33 @@ ghost use Rattle.store.specs.Change.{appended, taken, put_in};
 
 use item::Item;
 use message::Envelope;
-use store_access::stride::Place;
-use store_access::{head, links};
+use std::num::wrapping_add_usize;
+use store_access::{head, links, stride};
 
 // The last record of the chain from record `first`.
+// Kept: a loop with a `continue` where the guess was right. In a `for`, or in a method that the loops over a chain share, the
+// compiler takes the link in place of the guess, and each record waits for it (docs/PERFORMANCE.md).
 fn last_from(s: &[u8; store::LENGTH], first: usize) -> usize
     ensures { result ≡ last_from record_count (records_of s.now) first }
 {
-    let mut place = Place::first(first);
-    for _ in 0..store::RECORDS {
-        let i = place.at;
-        place.go_on(s);
-        if place.at == 0 {
+    let mut i = first;
+    let mut step = 1;
+    let mut left = store::RECORDS;
+    while 0 < left {
+        let guess = wrapping_add_usize(i, step);
+        let after = links::next(s, i);
+        if after == 0 {
             return i;
         }
+        left -= 1;
+        if after == guess {
+            i = guess;
+            continue;
+        }
+        step = stride::between(i, after);
+        i = after;
     }
-    place.at
+    i
 }
 
 // Record `i` stands at the end of node `k`'s inbox.

@@ -5,23 +5,33 @@ ghost use Rattle.store.specs.Records.{record_count, records_of, on_records};
 ghost use Rattle.store.specs.Chain.{before_from};
 ghost use Rattle.store.specs.Change.{unlinked, freed, drop_in};
 
-use store_access::stride::Place;
-use store_access::{head, links};
+use std::num::wrapping_add_usize;
+use store_access::{head, links, stride};
 
 // The record before record `r` on the chain from record `first`, 0 if there is none.
+// Kept: a loop with a `continue` where the guess was right, as in `putting::last_from`.
 fn before_from(s: &[u8; store::LENGTH], r: usize, first: usize) -> usize
     ensures { result ≡ before_from record_count (records_of s.now) r first }
 {
-    let mut place = Place::first(first);
-    for _ in 0..store::RECORDS {
-        let i = place.at;
+    let mut i = first;
+    let mut step = 1;
+    let mut left = store::RECORDS;
+    while 0 < left {
         if i == 0 {
             return 0;
         }
-        place.go_on(s);
-        if place.at == r {
+        let guess = wrapping_add_usize(i, step);
+        let after = links::next(s, i);
+        if after == r {
             return i;
         }
+        left -= 1;
+        if after == guess {
+            i = guess;
+            continue;
+        }
+        step = stride::between(i, after);
+        i = after;
     }
     0
 }

@@ -3,12 +3,12 @@ use Rattle.std.proofs.Common.{◌≡◌, ℕ, zero, suc, ◌+◌, ◌-◌, ◌<�
 use mathlib.Core.Bool.{and_assoc, and-true}
 use Rattle.item.specs.Maxima.{valid_size}
 use Rattle.store.specs.declared.Walked.{Walked}
-use Rattle.store.specs.declared.chain.Chain.TheVariants.{Free, Inbox}
+use Rattle.record.specs.Record.{zero_after_next}
 use Rattle.store.specs.Records.{record_count, records_of}
 use Rattle.store.proofs.Joined.{records_count}
 use Rattle.store.specs.Head.{group_size, first_free, first_of, head_zero}
 use Rattle.store.specs.Chain.{walked, walk}
-use Rattle.store.specs.Sound.{belongs_to, belongs_on, walk_inboxes, walk_free, head_passed, all_passed, all_on_chains, sound_records, last_count, free_count, survey_of}
+use Rattle.store.specs.Sound.{belongs_to, walk_inboxes, walk_free, head_passed, all_passed, all_on_chains, sound_records, last_count, free_count, survey_of}
 
 -- ---- the inboxes, one after the other
 
@@ -21,18 +21,13 @@ pub inboxes_out : (left n : ℕ) (rs : List (List ℕ)) (k : ℕ) (w : Option Wa
 unfolding walk_inboxes
 inboxes_out left n rs k w e = ap (λ (m : ℕ). walk_inboxes m n rs k w) e
 
-inbox_walk : (s : List ℕ) (k n i : ℕ) (passed : List Bool)
-    → walk (belongs_on (Inbox k) n) record_count (records_of s) i passed 0 ≡ walk (belongs_to n k) (length (records_of s)) (records_of s) i passed 0
-unfolding belongs_on
-inbox_walk s k n i passed = ap (λ (m : ℕ). walk (belongs_to n k) m (records_of s) i passed 0) (sym (records_count s))
-
 pub inboxes_turn : (n : ℕ) (s : List ℕ) (k first : ℕ) (passed : List Bool) (count : ℕ) (o : Option Walked) → k < n → first ≡ first_of (records_of s) k
-    → o ≡ walk (belongs_on (Inbox k) n) record_count (records_of s) first passed 0
+    → o ≡ walk (belongs_to n k) record_count (records_of s) first passed 0
     → walk_inboxes (n - k) n (records_of s) k (Some (walked passed count)) ≡ walk_inboxes (n - (k + 1)) n (records_of s) (k + 1) o
 unfolding walk_inboxes
 inboxes_turn n s k first passed count o l ef eo =
     let m : n - k ≡ suc (n - (k + 1)) = omega arith in
-    rw (m, add-one k, eo, inbox_walk s k n first passed, ef)
+    rw (m, add-one k, eo, ap (λ (m : ℕ). walk (belongs_to n k) m (records_of s) first passed 0) (sym (records_count s)), ef)
 
 -- ---- every record passed
 
@@ -48,10 +43,10 @@ passed_more ps i all h e = rw (e, add-one, take-suc ps i false h, all_passed_app
 
 -- ---- the free chain
 
-pub free_is : (s : List ℕ) (n first : ℕ) (passed : List Bool) (o : Option Walked) → first ≡ first_free (records_of s)
-    → passed ≡ head_passed record_count → o ≡ walk (belongs_on Free n) record_count (records_of s) first passed 0 → o ≡ walk_free (records_of s)
-unfolding walk_free belongs_on
-free_is s n first passed o ef ep eo = rw (eo, ep, ef, records_count s)
+pub free_is : (s : List ℕ) (first : ℕ) (passed : List Bool) (o : Option Walked) → first ≡ first_free (records_of s)
+    → passed ≡ head_passed record_count → o ≡ walk zero_after_next record_count (records_of s) first passed 0 → o ≡ walk_free (records_of s)
+unfolding walk_free
+free_is s first passed o ef ep eo = rw (eo, ep, ef, records_count s)
 
 -- ---- what one pass finds
 

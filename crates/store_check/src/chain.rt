@@ -1,16 +1,16 @@
 // One chain of a store followed from its first record on, each record judged as it is passed. The marks of the records
 // passed are lent: a copy of them would take longer than a short chain.
-ghost use Rattle.std.specs.Prelude.{◌≡◌, option_map};
+ghost use Rattle.std.specs.Prelude.{◌≡◌, Bool, List, ℕ, option_map};
 ghost use Rattle.record.specs.Layout.{record_of};
+ghost use Rattle.record.specs.Record.{zero_after_next};
 ghost use Rattle.store.specs.Records.{record_count, records_of};
 ghost use Rattle.store.specs.Chain.{walked, walk};
-ghost use Rattle.store.specs.Sound.{belongs_to, belongs_on};
+ghost use Rattle.store.specs.Sound.{belongs_to};
 
 use record::layout;
 use record_read::endpoints;
-use store::chain::Chain;
-use store_access::links;
-use store_access::stride::Place;
+use std::num::wrapping_add_usize;
+use store_access::{links, stride};
 
 // Whether a record is a message to `owner` from another node of a group of `n`.
 fn message_to(r: &[u8; record::SIZE], n: usize, owner: usize) -> bool
@@ -28,58 +28,87 @@ fn message_to(r: &[u8; record::SIZE], n: usize, owner: usize) -> bool
     ends.addressee == owner
 }
 
-// Whether record `i` is a message to `owner` from another node of a group of `n`.
-#[tactic(auto, unfolding(store::specs::Sound::belongs_to, store::specs::Sound::addressed_to, record::specs::Record::read_record))]
-fn belongs_to(s: &[u8], i: usize, n: usize, owner: usize) -> bool
-    ensures { result ≡ belongs_to n owner (record_of s.now i) }
-{
-    let Some(r) = layout::record_at(s, i) else {
-        return false;
-    };
-    message_to(r, n, owner)
+// A kind of chain, by what belongs on it.
+pub trait Belongs {
+    ghost belongs: { Self → List ℕ → Bool };
+
+    // Whether record `i` belongs on the chain.
+    fn has(&self, s: &[u8], i: usize) -> bool
+        ensures { result ≡ belongs self.now (record_of s.now i) };
 }
 
-// Whether record `i` belongs on a chain of a group of `n`.
-#[tactic(auto, unfolding(store::specs::Sound::belongs_on))]
-fn belongs_on(s: &[u8], i: usize, chain: Chain, n: usize) -> bool
-    ensures { result ≡ belongs_on chain n (record_of s.now i) }
-{
-    match chain {
-        Chain::Free => links::zero_after_next(s, i),
-        Chain::Inbox(owner) => belongs_to(s, i, n, owner),
+// The free chain.
+#[derive(Clone, Copy)]
+pub struct Free;
+
+// The inbox of `owner` in a group of `n`.
+#[derive(Clone, Copy)]
+pub struct Inbox {
+    pub n: usize,
+    pub owner: usize,
+}
+
+impl Belongs for Free {
+    ghost belongs = { λ _. zero_after_next };
+
+    fn has(&self, s: &[u8], i: usize) -> bool {
+        links::zero_after_next(s, i)
     }
 }
 
-// A chain of a group of `n` from record `first` is followed to its end: how many records it has, or nothing where it comes to a
-// record that is not there, was passed before or does not belong on it.
-pub fn follow(
+impl Belongs for Inbox {
+    ghost belongs = { λ inbox. belongs_to inbox.n inbox.owner };
+
+    #[tactic(auto, unfolding(store::specs::Sound::belongs_to, store::specs::Sound::addressed_to, record::specs::Record::read_record))]
+    fn has(&self, s: &[u8], i: usize) -> bool {
+        let Some(r) = layout::record_at(s, i) else {
+            return false;
+        };
+        message_to(r, self.n, self.owner)
+    }
+}
+
+// A chain from record `first` is followed to its end: how many records it has, or nothing where it comes to a record that is not
+// there, was passed before or does not belong on it.
+// Kept: a loop with a `continue` where the guess was right. In a `for`, or in a method that the loops over a chain share, the
+// compiler takes the link in place of the guess, and each record waits for it (docs/PERFORMANCE.md).
+pub fn follow<C: Belongs>(
     s: &[u8; store::LENGTH],
-    chain: Chain,
-    n: usize,
+    chain: &C,
     first: usize,
     passed: &mut [bool; store::RECORDS],
 ) -> Option<usize>
-    ensures { option_map (walked passed.new) result ≡ walk (belongs_on chain n) record_count (records_of s.now) first passed.old 0 }
+    ensures { option_map (walked passed.new) result ≡ walk (C.belongs chain.now) record_count (records_of s.now) first passed.old 0 }
 {
-    let mut place = Place::first(first);
-    for count in 0..store::RECORDS {
-        if place.at == 0 {
+    let mut i = first;
+    let mut step = 1;
+    let mut count = 0;
+    while count < store::RECORDS {
+        if i == 0 {
             return Some(count);
         }
-        if store::RECORDS <= place.at {
+        if store::RECORDS <= i {
             return None;
         }
-        if passed[place.at] {
+        let guess = wrapping_add_usize(i, step);
+        if passed[i] {
             return None;
         }
-        if !belongs_on(s, place.at, chain, n) {
+        if !chain.has(s, i) {
             return None;
         }
-        passed[place.at] = true;
-        place.go_on(s);
+        passed[i] = true;
+        count += 1;
+        let after = links::next(s, i);
+        if after == guess {
+            i = guess;
+            continue;
+        }
+        step = stride::between(i, after);
+        i = after;
     }
-    if place.at != 0 {
+    if i != 0 {
         return None;
     }
-    Some(store::RECORDS)
+    Some(count)
 }

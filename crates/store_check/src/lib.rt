@@ -9,9 +9,9 @@ ghost use Rattle.store.specs.Head.{head_zero};
 ghost use Rattle.store.specs.Chain.{walked};
 ghost use Rattle.store.specs.Sound.{walk_inboxes, all_passed, head_passed, survey_of, survey};
 
+use chain::{Free, Inbox, follow};
 use endian::zeros;
 use store::Survey;
-use store::chain::Chain;
 use store_access::head;
 
 // Whether the head is zero where no field of a group of its size stands.
@@ -51,7 +51,7 @@ fn follow_inboxes(
 {
     let mut last = free;
     for k in 0..n {
-        last = chain::follow(s, Chain::Inbox(k), n, head::first_of(s, k), passed)?;
+        last = follow(s, &Inbox { n, owner: k }, head::first_of(s, k), passed)?;
     }
     Some(last)
 }
@@ -81,7 +81,7 @@ fn check_records(s: &[u8; store::LENGTH]) -> Option<Survey>
         return None;
     }
     let mut passed = head_passed();
-    let free = chain::follow(s, Chain::Free, n, head::first_free(s), &mut passed)?;
+    let free = follow(s, &Free, head::first_free(s), &mut passed)?;
     follow_inboxes(s, n, free, &mut passed)?;
     if !all_passed(&passed) {
         return None;

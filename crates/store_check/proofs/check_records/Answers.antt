@@ -18,7 +18,7 @@ returns-in_err-free c =
     let s = c.args.s.now in
     let rs = records_of s in
     let n = c.group_size-n in
-    let free = free_is s n.result _ _ _ c.first_free.ensures c.head_passed-passed.ensures c.in_err-free.ensures in
+    let free = free_is s _ _ _ c.first_free.ensures c.head_passed-passed.ensures c.in_err-free.ensures in
     c.from_residual.ensures
     ∙ sym (survey_is rs n.result n.ensures None c.if-not-valid_size.ensures c.if-not-head_zero.ensures
     (sym (inboxes_stop n.result n.result rs 0) ∙ ap (walk_inboxes n.result n.result rs 0) free))
@@ -29,7 +29,7 @@ returns-in_err-follow_inboxes c =
     let s = c.args.s.now in
     let rs = records_of s in
     let n = c.group_size-n in
-    let free = free_is s n.result _ _ _ c.first_free.ensures c.head_passed-passed.ensures c.in_ok-free.ensures in
+    let free = free_is s _ _ _ c.first_free.ensures c.head_passed-passed.ensures c.in_ok-free.ensures in
     c.from_residual-in_err-follow_inboxes.ensures
     ∙ sym (survey_is rs n.result n.ensures None c.if-not-valid_size.ensures c.if-not-head_zero.ensures
     (c.in_err-follow_inboxes.ensures ∙ ap (walk_inboxes n.result n.result rs 0) free))
@@ -40,7 +40,7 @@ returns-then-not-all_passed c =
     let s = c.args.s.now in
     let rs = records_of s in
     let n = c.group_size-n in
-    let free = free_is s n.result _ _ _ c.first_free.ensures c.head_passed-passed.ensures c.in_ok-free.ensures in
+    let free = free_is s _ _ _ c.first_free.ensures c.head_passed-passed.ensures c.in_ok-free.ensures in
     sym (survey_is rs n.result n.ensures _ c.if-not-valid_size.ensures c.if-not-head_zero.ensures
     (c.in_ok-follow_inboxes.ensures ∙ ap (walk_inboxes n.result n.result rs 0) free)
     ∙ rw (← c.if-not-all_passed.ensures))
@@ -51,7 +51,7 @@ returns c =
     let s = c.args.s.now in
     let rs = records_of s in
     let n = c.group_size-n in
-    let free = free_is s n.result _ _ _ c.first_free.ensures c.head_passed-passed.ensures c.in_ok-free.ensures in
+    let free = free_is s _ _ _ c.first_free.ensures c.head_passed-passed.ensures c.in_ok-free.ensures in
     sym (survey_is rs n.result n.ensures _ c.if-not-valid_size.ensures c.if-not-head_zero.ensures
     (c.in_ok-follow_inboxes.ensures ∙ ap (walk_inboxes n.result n.result rs 0) free)
     ∙ rw (← c.if-not-all_passed.ensures, ← free))

@@ -3,11 +3,13 @@
 use Rattle.std.proofs.Common.{◌≡◌, ◌-◌, length}
 use Rattle.store.specs.Records.{record_count, records_of}
 use Rattle.store.specs.Chain.{walk}
-use Rattle.store.specs.Sound.{belongs_on}
 use Rattle.store_check.proofs.chain.follow.Given as goal
 
 abbrev pub invariant-loop-count : goal.invariant-loop-count
-invariant-loop-count l =
+invariant-loop-count g l =
     (length l.passed ≡ record_count)
-    × (walk (belongs_on l.chain l.n) (record_count - l.count) (records_of l.s) l.place.at l.passed l.count
-    ≡ walk (belongs_on l.chain l.n) record_count (records_of l.s) l.first l.initial.passed 0)
+    × (walk (g.C.Belongs.belongs l.chain) (record_count - l.count) (records_of l.s) l.i l.passed l.count
+    ≡ walk (g.C.Belongs.belongs l.chain) record_count (records_of l.s) l.first l.initial.passed 0)
+
+abbrev pub decreases-loop-count : goal.decreases-loop-count
+decreases-loop-count g l = record_count - l.count
