@@ -1,6 +1,5 @@
 // The merge of fetched tables: what a node that is Fetching keeps of the tables it counts, row by row.
-ghost use Rattle.std.specs.Prelude.{◌≡◌, ◌<◌, MatchOption};
-ghost use Rattle.item.specs.Maxima.{max_nodes};
+ghost use Rattle.std.specs.Prelude.{◌≡◌};
 ghost use Rattle.protocol.specs.Merge.{merge_row, merge_rows, lowest_marked};
 
 use item::{Item, Row};
@@ -43,8 +42,9 @@ pub fn merge_rows(
 }
 
 // The number of the lowest marked row, if one is marked.
+#[tactic(auto, unfolding(protocol::specs::Merge::lowest_marked))]
 pub fn lowest_marked(rows: &[Row; Node::MAX_ROWS]) -> Option<usize>
-    ensures { MatchOption result (lowest_marked rows.now ≡ max_nodes) (λ i. (i < max_nodes) × (lowest_marked rows.now ≡ i)) }
+    ensures { result ≡ lowest_marked rows.now }
 {
     rows.iter().position(|row| row.marked)
 }

@@ -21,7 +21,7 @@ pub fn table_counted(node: Node) -> Step
 
 // What a node that counts f + 1 tables does: where some row's greatest index has come with two tags the return ends at the
 // lowest such row, and the node is Down; otherwise it sends the item that it writes back to every other node.
-#[tactic(auto, unfolding(protocol::specs::Fetching::node_recover, protocol::specs::Fetching::has_conflict, protocol::specs::Fetching::stopped))]
+#[tactic(auto, unfolding(protocol::specs::Fetching::node_recover, protocol::specs::Fetching::recovered, protocol::specs::Fetching::stopped))]
 fn node_recover(node: Node) -> Step
     ensures { result ≡ node_recover node }
 {
