@@ -41,7 +41,7 @@ pub fn merge_rows(
     rows
 }
 
-// The lowest marked row, if one is marked.
+// The number of the lowest marked row, if one is marked.
 #[tactic(auto, unfolding(protocol::specs::Merge::lowest_marked))]
 pub fn lowest_marked(rows: &[Row; Node::MAX_ROWS]) -> Option<usize>
     ensures { result ≡ lowest_marked rows.now }

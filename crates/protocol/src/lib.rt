@@ -81,6 +81,7 @@ pub enum Refusal {
 }
 
 // What a call answers.
+// Kept: a `Result` would need a second enum for the four that are no refusal, and "ok" would be `Ok(Ok)`.
 #[derive(Clone, Copy)]
 pub enum Answer {
     Ok,
