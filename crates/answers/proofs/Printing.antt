@@ -1,11 +1,11 @@
 -- Laws of printing: text written piece by piece, and that an output line has at most 72 bytes.
-use Prim.Native.Nat.{ℕ, suc, ◌+◌, ◌<◌, ◌≤◌}
-use native.Mathlib.Numerals.{add-one}
+use Prim.Native.Nat.{ℕ, ◌+◌, ◌≤◌}
 use native.Mathlib.Omega.{arith}
-use mathlib.Core.Path.{◌≡◌, ◌∙◌}
-use mathlib.Core.List.{List, [], ◌∷◌, ◌++◌}
-use lib.ListN.{length, get_or, set, drop, drop_of_length-le, length-append}
-use lib.Seq.{sets, drop-cons}
+use mathlib.Core.Path.{◌≡◌, sym, ◌∙◌}
+use mathlib.Core.List.{List, [], ◌∷◌, ◌++◌, append_assoc}
+use borrow.Rule.Slice.PartMut.{put_mid}
+use lib.ListN.{length, take, drop, length-append}
+use lib.Seq.{sets, sets-eq, drop-drop}
 use Rattle.item.specs.declared.Item.{Item}
 use Rattle.script.specs.Digits.{decimal_of, max_digits}
 use Rattle.script.specs.Place.{placed, place_after}
@@ -15,19 +15,12 @@ use Rattle.protocol.specs.declared.Answer.{Answer}
 use Rattle.protocol.specs.declared.Answer.TheVariants.{Ok, Settled, Accepted, Stopped, Refused}
 use Rattle.script.specs.Bytes.{space, line_feed}
 use Rattle.answers.specs.Output.{Written, tag_bytes, item_bytes, answer_bytes, reply_bytes, output_line, line_room}
-use Rattle.answers.specs.declared.Reply.{Reply}
-use Rattle.answers.specs.declared.Reply.TheVariants as reply
+use Rattle.std.specs.Prelude.{Option, Some, None}
 
--- a loop's turn writes the i-th byte of the text: what is left gives the same list
-pub sets_first : (out : List ℕ) (at : ℕ) (text : List ℕ) → sets out (at + 0) (drop 0 text) ≡ sets out at text
-sets_first out at text = let e : at + 0 ≡ at = omega arith in rw e
-
-pub sets_turn : (out : List ℕ) (at i : ℕ) (text : List ℕ) → i < length text
-    → sets (set out (at + i) (get_or text i 0)) (at + (i + 1)) (drop (i + 1) text) ≡ sets out (at + i) (drop i text)
-sets_turn out at i text h = let e : at + suc i ≡ suc (at + i) = omega arith in rw (drop-cons text i 0 h, add-one, e)
-
-pub sets_over : (out : List ℕ) (at i : ℕ) (text : List ℕ) → length text ≤ i → sets out at (drop i text) ≡ out
-sets_over out at i text h = rw (drop_of_length-le text h)
+-- a part of the list that becomes the text
+pub part_written : (out : List ℕ) (at k : ℕ) (text part : List ℕ) → k ≡ length text → part ≡ text → at + length text ≤ length out → put_mid at k out part ≡ sets out at text
+part_written out at k text part e p h =
+    rw (e, p, drop-drop (length text) at out) (sym (sets-eq text out at h ∙ append_assoc (take at out) text (drop (at + length text) out)))
 
 -- text after text
 pub then : {out : List ℕ} {at : ℕ} {xs : List ℕ} {k : ℕ} {mid ys : List ℕ} {next : ℕ} {last : List ℕ}
@@ -58,12 +51,12 @@ answer_length (Accepted item) = omega (arith, item_length item)
 answer_length (Stopped row) = omega (arith, decimal_length row)
 answer_length (Refused why) = omega (arith, decimal_length (refusal_number why))
 
-pub reply_length : (r : Reply) → length (reply_bytes r) ≤ 50
+pub reply_length : (r : Option Answer) → length (reply_bytes r) ≤ 50
 unfolding reply_bytes
-reply_length (reply.Answered a) = answer_length a
-reply_length reply.Unread = omega arith
+reply_length (Some a) = answer_length a
+reply_length None = omega arith
 
-pub line_length : (count : ℕ) (r : Reply) → length (output_line count r) ≤ line_room
+pub line_length : (count : ℕ) (r : Option Answer) → length (output_line count r) ≤ line_room
 unfolding output_line
 line_length count r =
     omega (arith, length-append (decimal_of count) (space ∷ (reply_bytes r ++ (line_feed ∷ []))), length-append (reply_bytes r) (line_feed ∷ []), decimal_length count, reply_length r)

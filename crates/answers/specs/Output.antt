@@ -1,7 +1,7 @@
 -- The drill's output lines (document 01, Drill program): "For each it prints the line's count from 1, a space, and `ok`,
 -- `settled index tag`, `accepted index tag`, `stopped row` or `refused number`. Any other line prints `unread` after its
 -- count". Numbers are decimal.
-use Rattle.std.specs.Prelude.{ℕ, ◌+◌, ◌≡◌, List, [], ◌∷◌, ◌++◌, length}
+use Rattle.std.specs.Prelude.{ℕ, ◌+◌, ◌≡◌, List, [], ◌∷◌, ◌++◌, length, Option, Some, None}
 use Rattle.std.proofs.lemmas.List.Edits.{sets}
 use Rattle.item.specs.declared.Item.{Item}
 use Rattle.item.specs.declared.Tag.{Tag}
@@ -10,8 +10,6 @@ use Rattle.protocol.specs.Answer.{refusal_number}
 use Rattle.protocol.specs.declared.Answer.{Answer}
 use Rattle.protocol.specs.declared.Answer.TheVariants.{Ok, Settled, Accepted, Stopped, Refused}
 use Rattle.script.specs.Bytes.{space, line_feed}
-use Rattle.answers.specs.declared.Reply.{Reply}
-use Rattle.answers.specs.declared.Reply.TheVariants as reply
 
 -- `ok`, `settled `, `accepted `, `stopped `, `refused `, `unread`
 abbrev pub ok_word : List ℕ
@@ -47,12 +45,13 @@ answer_bytes (Accepted item) = accepted_word ++ item_bytes item
 answer_bytes (Stopped row) = stopped_word ++ decimal_of row
 answer_bytes (Refused why) = refused_word ++ decimal_of (refusal_number why)
 
-unfoldable pub reply_bytes : Reply → List ℕ
-reply_bytes (reply.Answered a) = answer_bytes a
-reply_bytes reply.Unread = unread_word
+-- what a line says after its count: its answer, or, where it was not read, `unread`
+unfoldable pub reply_bytes : Option Answer → List ℕ
+reply_bytes (Some a) = answer_bytes a
+reply_bytes None = unread_word
 
 -- "the line's count from 1, a space, and .."
-unfoldable pub output_line : ℕ → Reply → List ℕ
+unfoldable pub output_line : ℕ → Option Answer → List ℕ
 output_line count r = decimal_of count ++ (space ∷ (reply_bytes r ++ (line_feed ∷ [])))
 
 -- the bytes of the longest output line: an accepted item, every number of twenty digits

@@ -1,4 +1,8 @@
 // The drill's output lines, printed into a lent slice.
+// Kept: no `impl Display`, since `write!` promises its bytes only where it gives `Ok`, and no clause says that it does
+// where the text fits; here the bytes are promised wherever a line has room.
+// Kept: slice and place stay two parameters: a struct of them would hold the `&mut`, and each clause would say the same
+// of its fields, with what the slice is when it is given back besides.
 #![tactic(auto)]
 
 mod refusals;
@@ -13,20 +17,12 @@ use protocol::Answer;
 use refusals::refusal_number;
 use script::put_number;
 
-// What an output line says after its count.
-#[derive(Clone, Copy)]
-pub enum Reply {
-    Answered(Answer),
-    // The input line was not read.
-    Unread,
-}
-
 // The bytes of the longest output line.
 pub const LINE_ROOM: usize = 72;
 
-// Writes the output line at the place, and gives the place after it. Where fewer bytes are left than the longest line
-// takes, nothing is written and the place comes back.
-pub fn print_line(out: &mut [u8], at: usize, count: u64, reply: Reply) -> usize
+// Writes the output line at the place: the count, and what the input line was answered, or that it was not read. Gives
+// the place after it. Where fewer bytes are left than the longest line takes, nothing is written and the place comes back.
+pub fn print_line(out: &mut [u8], at: usize, count: u64, reply: Option<Answer>) -> usize
     ensures { (result ≡ place_after line_room out.old at (output_line count reply)) × (out.new ≡ placed line_room out.old at (output_line count reply)) }
 {
     if out.len() < LINE_ROOM {
@@ -40,7 +36,7 @@ pub fn print_line(out: &mut [u8], at: usize, count: u64, reply: Reply) -> usize
 
 // Writes the output line at the place, where it fits.
 #[tactic(auto, unfolding(crate::specs::Output::output_line))]
-fn put_line(out: &mut [u8], at: usize, count: u64, reply: Reply) -> usize
+fn put_line(out: &mut [u8], at: usize, count: u64, reply: Option<Answer>) -> usize
     requires { at + line_room ≤ length out.old }
     ensures { Written out.old at (output_line count reply) result out.new }
 {
@@ -52,13 +48,13 @@ fn put_line(out: &mut [u8], at: usize, count: u64, reply: Reply) -> usize
 
 // Writes what the line says after its count.
 #[tactic(auto, unfolding(crate::specs::Output::reply_bytes))]
-fn put_reply(out: &mut [u8], at: usize, reply: Reply) -> usize
+fn put_reply(out: &mut [u8], at: usize, reply: Option<Answer>) -> usize
     requires { at + 50 ≤ length out.old }
     ensures { Written out.old at (reply_bytes reply) result out.new }
 {
     match reply {
-        Reply::Answered(answer) => put_answer(out, at, answer),
-        Reply::Unread => put_text(out, at, b"unread"),
+        Some(answer) => put_answer(out, at, answer),
+        None => put_text(out, at, b"unread"),
     }
 }
 
@@ -109,10 +105,7 @@ fn put_text(out: &mut [u8], at: usize, text: &[u8]) -> usize
     requires { at + length text.now ≤ length out.old }
     ensures { Written out.old at text.now result out.new }
 {
-    let mut i = 0;
-    while i < text.len() {
-        out[at + i] = text[i];
-        i += 1;
-    }
-    at + i
+    let next = at + text.len();
+    out[at..next].copy_from_slice(text);
+    next
 }

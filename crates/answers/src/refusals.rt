@@ -5,6 +5,7 @@ ghost use Rattle.protocol.specs.Answer.{refusal_number};
 use protocol::Refusal;
 
 // Document 01's number of a refusal.
+// Kept: `From<Refusal> for u64` may stand in `protocol` alone, which prints nothing.
 pub fn refusal_number(why: Refusal) -> u64
     ensures { result ≡ refusal_number why }
 {

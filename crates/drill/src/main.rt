@@ -8,17 +8,10 @@ ghost use Rattle.drill_run.specs.Whole.{TakenWhole};
 
 use drill_run::{STORE_ROOM, feed};
 use drill_state::{Progress, finish};
-use std::io::{Read, Write};
+use std::io::{Read, Result, Write};
 
 // How often a read that fails is tried, since an interrupted one fails too.
 const TRIES: u64 = 16;
-
-// Where the drill stands after a piece, and whether all that it printed could be written.
-#[derive(Clone, Copy)]
-struct Taken {
-    progress: Progress,
-    written: bool,
-}
 
 // Says on standard error which of the two failed, input or output; the exit status does not tell. Where that cannot be
 // written either, nothing is said.
@@ -31,49 +24,43 @@ fn say_failed(errors: &mut impl Write, input: bool) {
     let _ = errors.write_all(said);
 }
 
-// Takes a piece of the script and prints its answers, in as many turns as `out` has room for. It ends early only where
-// no count is left for another line. After an output that cannot be written nothing more is written.
+// Takes a piece of the script from where the drill stands, and prints its answers, in as many turns as `out` has room for.
+// It ends early only where no count is left for another line. After an output that cannot be written nothing more is
+// written, and the piece is still taken.
 fn take_piece(
     piece: &[u8],
-    start: Progress,
+    progress: &mut Progress,
     store: &mut [u8],
     out: &mut [u8],
     output: &mut impl Write,
-) -> Taken
-    ensures { TakenWhole piece.now start store.old (length out.old) result.progress store.new }
+) -> Result<()>
+    ensures { TakenWhole piece.now progress.old store.old (length out.old) progress.new store.new }
 {
-    let mut progress = start;
-    let mut written = true;
+    let mut written = Ok(());
     let mut from = 0;
     while from < piece.len() {
-        let fed = feed(&piece[from..], progress, store, out);
+        let fed = feed(&piece[from..], *progress, store, out);
         let at = fed.at;
         let next = fed.next;
-        let after = fed.progress;
-        progress = after;
-        if written {
-            written = output.write_all(&out[..at]).is_ok();
+        *progress = fed.progress;
+        if written.is_ok() {
+            written = output.write_all(&out[..at]);
         }
         if next == 0 {
             break;
         }
         from += next;
     }
-    Taken {
-        progress: progress,
-        written: written,
-    }
+    written
 }
 
 // Reads a block of the script: no byte at its end, or where the input cannot be read, which is said.
 fn read_block(input: &mut impl Read, errors: &mut impl Write, block: &mut [u8]) -> usize
     ensures { IsPrefixLen result block.new }
 {
-    let mut tries = TRIES;
-    while 0 < tries {
-        match input.read(block) {
-            Ok(got) => return got,
-            Err(_) => tries -= 1,
+    for _ in 0..TRIES {
+        if let Ok(got) = input.read(block) {
+            return got;
         }
     }
     say_failed(errors, true);
@@ -81,7 +68,7 @@ fn read_block(input: &mut impl Read, errors: &mut impl Write, block: &mut [u8]) 
 }
 
 // Reads the script block by block to its end. A proved loop has to end, and nothing says that the input does, so the
-// blocks are counted down from the largest number there is.
+// blocks are counted up to the largest number there is.
 fn main(rt: HostRuntime) {
     let mut input = rt.stdin();
     let mut output = rt.stdout();
@@ -90,26 +77,21 @@ fn main(rt: HostRuntime) {
     let mut block = io::large_buffer();
     let mut out = io::large_buffer();
     let mut progress = Progress::start();
-    let mut left = u64::MAX;
-    while 0 < left {
+    for _ in 0..u64::MAX {
         let n = read_block(&mut input, &mut errors, &mut block);
         if n == 0 {
             break;
         }
         let taken = take_piece(
             &block[..n],
-            progress,
+            &mut progress,
             &mut room[..store::LENGTH],
             &mut out,
             &mut output,
         );
-        let next = taken.progress;
-        progress = next;
-        if taken.written {
-            left -= 1;
-        } else {
+        if taken.is_err() {
             say_failed(&mut errors, false);
-            left = 0;
+            break;
         }
     }
     let at = finish(progress, &mut out);

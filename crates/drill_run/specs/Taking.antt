@@ -1,5 +1,5 @@
 -- What the lines of a piece keep of a position that was reached, with the nodes and the store that are held there.
-use Rattle.std.specs.Prelude.{ℕ, suc, ◌+◌, ◌<◌, ◌^◌, ◌≡◌, false, ◌⊎◌, List, length}
+use Rattle.std.specs.Prelude.{ℕ, suc, ◌+◌, ◌<◌, ◌^◌, ◌≡◌, ◌⊎◌, List, length, None}
 use Rattle.answers.specs.Output.{line_room}
 use Rattle.drill_state.specs.declared.Progress.{Progress}
 use Rattle.protocol.specs.declared.Node.{Node}
@@ -8,7 +8,7 @@ use Rattle.drill_state.specs.declared.line_reader.Position.{Position}
 
 -- where nothing is asked, all of the piece was taken, unless there was no room for another line or no count for it
 abbrev pub Stops : List ℕ → List ℕ → Position → Type 0
-Stops piece out p = p.asks ≡ false → (p.next ≡ length piece) ⊎ ((length out < p.at + line_room) ⊎ (suc p.count ≡ 2 ^ 64))
+Stops piece out p = p.asked ≡ None → (p.next ≡ length piece) ⊎ ((length out < p.at + line_room) ⊎ (suc p.count ≡ 2 ^ 64))
 
 -- from a position that was reached the lines lead to another
 abbrev pub Takes : List ℕ → List ℕ → Position → List Node → List ℕ → List ℕ → Position → List Node → List ℕ → Type 0

@@ -21,13 +21,12 @@ pub const STORE_ROOM: usize = store::LENGTH + 8;
 fn fed(position: Position, nodes: [Node; Node::MAX_NODES]) -> Fed
     ensures { result ≡ fed_from position nodes }
 {
-    let pending = position.pending;
     Fed {
         next: position.next,
         at: position.at,
         progress: Progress {
             count: position.count,
-            pending: pending,
+            pending: position.pending,
             drill: Drill {
                 n: position.n,
                 nodes: nodes,
@@ -57,7 +56,5 @@ pub fn feed(piece: &[u8], start: Progress, store: &mut [u8], out: &mut [u8]) -> 
     ensures { Taken piece.now start store.old result.next result.at out.new result.progress store.new }
 {
     let first = first_line(piece, start, out);
-    let drill = start.drill;
-    let nodes = drill.nodes;
-    lend_nodes(piece, first, nodes, store, out)
+    lend_nodes(piece, first, start.drill.nodes, store, out)
 }

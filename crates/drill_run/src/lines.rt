@@ -1,6 +1,6 @@
 // What the lines of a piece of a drill's script ask of the group, carried out one by one over lent nodes and a lent store.
 // It decides nothing.
-ghost use Rattle.std.specs.Prelude.{◌≡◌, false};
+ghost use Rattle.std.specs.Prelude.{◌≡◌, None};
 ghost use Rattle.drill_run.specs.Taking.{Takes};
 
 use drill_state::{Position, next_line};
@@ -15,11 +15,11 @@ pub fn take_lines(
     store: &mut [u8],
     out: &mut [u8],
 ) -> Position
-    ensures { (result.asks ≡ false) × Takes piece.now out.old first nodes.old store.old out.new result nodes.new store.new }
+    ensures { (result.asked ≡ None) × Takes piece.now out.old first nodes.old store.old out.new result nodes.new store.new }
 {
     let mut position = first;
-    while position.asks {
-        let answer = operate_first(nodes, store, position.asked);
+    while let Some(asked) = position.asked {
+        let answer = operate_first(nodes, store, asked);
         position = next_line(piece, position, answer, out);
     }
     position

@@ -12,7 +12,8 @@ use borrow.Author.Tests.{eq-eqb, ne_eqb, leb-true, leb-false}
 use Rattle.item.specs.Tests.{by_cond}
 use Rattle.answers.specs.Output.{output_line, line_room}
 use Rattle.answers.proofs.Printing.{line_length}
-use Rattle.answers.specs.declared.Reply.{Reply}
+use Rattle.std.specs.Prelude.{Option}
+use Rattle.protocol.specs.declared.Answer.{Answer}
 use Rattle.script.specs.Bytes.{line_feed}
 use Rattle.script.specs.Place.{placed, place_after}
 use Rattle.script.proofs.Writing.{placed_fits, placed_none, after_fits, after_none}
@@ -52,7 +53,7 @@ text_stands out at text h =
     (length-append (take at out) text ∙ ap (λ (k : ℕ). k + length text) (length-take-le at out (omega arith)))
 
 -- a line that was printed where it has room stands after what stood before it, within the list
-pub line_stands : (out : List ℕ) (at count : ℕ) (r : Reply) (out' : List ℕ) (at' : ℕ) → at + line_room ≤ length out
+pub line_stands : (out : List ℕ) (at count : ℕ) (r : Option Answer) (out' : List ℕ) (at' : ℕ) → at + line_room ≤ length out
     → (at' ≡ place_after line_room out at (output_line count r)) × (out' ≡ placed line_room out at (output_line count r)) → take at' out' ≡ take at out ++ output_line count r
 line_stands out at count r out' at' room e =
     let text = output_line count r in
@@ -60,7 +61,7 @@ line_stands out at count r out' at' room e =
     text_stands out at text (omega (arith, line_length count r))
 
 -- after a line was printed, or not for want of room, the place is within the list, which is as long as it was
-pub line_within : (out : List ℕ) (at count : ℕ) (r : Reply) (out' : List ℕ) (at' : ℕ) → at ≤ length out
+pub line_within : (out : List ℕ) (at count : ℕ) (r : Option Answer) (out' : List ℕ) (at' : ℕ) → at ≤ length out
     → (at' ≡ place_after line_room out at (output_line count r)) × (out' ≡ placed line_room out at (output_line count r)) → (at' ≤ length out') × (length out' ≡ length out)
 line_within out at count r out' at' h e = by_room (leb (at + line_room) (length out)) refl
   where
@@ -90,7 +91,7 @@ unfolding none_yet
 none_kept q e = rw e
 
 -- a line that was printed takes no more than the longest
-pub line_room_lem : (out : List ℕ) (at count : ℕ) (r : Reply) (out' : List ℕ) (at' : ℕ) → at + line_room ≤ length out
+pub line_room_lem : (out : List ℕ) (at count : ℕ) (r : Option Answer) (out' : List ℕ) (at' : ℕ) → at + line_room ≤ length out
     → (at' ≡ place_after line_room out at (output_line count r)) × (out' ≡ placed line_room out at (output_line count r)) → at' ≤ at + line_room
 line_room_lem out at count r out' at' room e =
     let a : at' ≡ at + length (output_line count r) = e.0 ∙ after_fits line_room out at (output_line count r) room in
@@ -148,7 +149,7 @@ kept_alike [] line count drill store = last_alike count line
 kept_alike (b ∷ bs) line count drill store =
     let kept = line_done (buffered_line (pushed_all none_yet line)) drill store in
     let ended = (λ (i : 𝕀). output_line (suc count) kept.turn.reply ++ kept_alike bs [] (suc count) kept.turn.drill kept.store i) ∙
-    ap (λ (l : Line). output_line (suc count) (line_done l drill store).turn.reply ++ output_from (suc count) [] (line_done l drill store).turn.drill (line_done l drill store).store bs) (gathered line) in
+    ap (λ (l : Option Line). output_line (suc count) (line_done l drill store).turn.reply ++ output_from (suc count) [] (line_done l drill store).turn.drill (line_done l drill store).store bs) (gathered line) in
     let longer = ap (λ (p : LineBuffer). buffered_output count p drill store bs) (sym (push_last none_yet line b)) ∙ kept_alike bs (line ++ (b ∷ [])) count drill store in
     λ i. cond (eqb b line_feed) (ended i) (longer i)
 

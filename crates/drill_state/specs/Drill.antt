@@ -1,8 +1,7 @@
 -- The whole drill (document 01, Drill program): "It reads lines .. each ended by a line feed .. For each it prints the
 -- line's count from 1, a space, and" what it is answered.
-use Rattle.std.specs.Prelude.{ℕ, suc, ◌*◌, cond, List, [], ◌∷◌, ◌++◌, eqb, length, replicate}
+use Rattle.std.specs.Prelude.{ℕ, suc, ◌*◌, cond, List, [], ◌∷◌, ◌++◌, eqb, length, replicate, None}
 use Rattle.answers.specs.Output.{output_line}
-use Rattle.answers.specs.declared.Reply.TheVariants as reply
 use Rattle.script.specs.Bytes.{line_feed}
 use Rattle.script.specs.Line.{line_of}
 use Rattle.store.specs.Records.{record_count}
@@ -12,7 +11,7 @@ use Rattle.drill_state.specs.declared.Drill.{Drill}
 
 -- "an unended last line" prints `unread`
 unfoldable pub last_output : ℕ → ℕ → List ℕ
-last_output count length = cond (eqb length 0) [] (output_line (suc count) reply.Unread)
+last_output count length = cond (eqb length 0) [] (output_line (suc count) None)
 
 -- what is printed for the bytes still to come, where `count` lines have ended and `line` has come of the next
 unfoldable pub output_from : ℕ → List ℕ → Drill → List ℕ → List ℕ → List ℕ

@@ -1,48 +1,42 @@
 -- Where a drill stands in a piece of its script, while nodes and store are held by someone else.
-use Rattle.std.specs.Prelude.{ℕ, suc, ◌+◌, ◌<◌, ◌≤◌, ◌^◌, ◌≡◌, Bool, true, false, cond, ◌⊎◌, List, ◌++◌, length, take, drop}
+use Rattle.std.specs.Prelude.{ℕ, suc, ◌+◌, ◌<◌, ◌≤◌, ◌^◌, ◌≡◌, cond, ◌⊎◌, List, ◌++◌, length, take, drop, Option, Some, None, option_map, is_some}
 use Rattle.answers.specs.Output.{output_line, line_room}
-use Rattle.answers.specs.declared.Reply.TheVariants as reply
 use Rattle.script.specs.declared.Asked.{Asked}
+use Rattle.script.specs.declared.Asked.TheVariants as ask
 use Rattle.script.specs.Operated.{operated_first}
-use Rattle.script.specs.LineBuffer.{none_yet}
 use Rattle.script.specs.declared.buffer.LineBuffer.{LineBuffer}
 use Rattle.drill_state.specs.Feeding.{buffered_output, progress_output, Counted}
-use Rattle.drill_state.specs.Turn.{size_after}
+use Rattle.drill_state.specs.Turn.{line_for, size_after}
 use Rattle.drill_state.specs.declared.Progress.{Progress}
 use Rattle.operations.specs.Operation.{Result}
 use Rattle.protocol.specs.declared.Answer.{Answer}
-use Rattle.protocol.specs.declared.Event.TheVariants as event
 use Rattle.protocol.specs.declared.Node.{Node}
 use Rattle.script.specs.declared.Line.{Line}
-use Rattle.script.specs.declared.Line.TheVariants.{SetUp, Call, Unread}
+use Rattle.script.specs.declared.Line.TheVariants.{SetUp, Call}
 use Rattle.drill_state.specs.declared.line_reader.Position.{Position}
 
--- whether a line asks something of the group, and what it asks of a group of n; a set-up has no event
-abbrev pub is_asked : Line → Bool
-is_asked (SetUp k) = true
-is_asked (Call e) = true
-is_asked Unread = false
+-- what a line asks of a group of n
+unfoldable pub asked_of : ℕ → Line → Asked
+asked_of n (SetUp k) = ask.SetUp k
+asked_of n (Call e) = ask.Call n e
 
-unfoldable pub asked_by : ℕ → Line → Asked
-asked_by n (SetUp k) = record { n = k; begins = true; event = event.Drop 0 }
-asked_by n (Call e) = record { n = n; begins = false; event = e }
-asked_by n Unread = record { n = n; begins = false; event = event.Drop 0 }
+-- and where the group has n nodes: nothing, if the line is unread there
+unfoldable pub asked_by : ℕ → Option Line → Option Asked
+asked_by n line = option_map (asked_of n) (line_for n line)
 
 -- how many nodes the group has after what is asked was answered so
-unfoldable pub size_then : Asked → ℕ → Answer → ℕ
-size_then asked before answer = cond asked.begins (size_after asked.n before answer) before
+unfoldable pub size_then : Option Asked → ℕ → Answer → ℕ
+size_then (Some (ask.SetUp n)) before answer = size_after n before answer
+size_then (Some (ask.Call n e)) before answer = before
+size_then None before answer = before
 
 -- every line ended was answered
 unfoldable pub resting_at : ℕ → ℕ → ℕ → LineBuffer → ℕ → Position
-resting_at next at count pending n = record { next = next; at = at; count = count; pending = pending; n = n; asks = false; asked = asked_by n Unread }
+resting_at next at count pending n = record { next = next; at = at; count = count; pending = pending; n = n; asked = None }
 
 -- the same place, where what was asked is answered
 unfoldable pub nothing_asked : Position → Position
 nothing_asked p = resting_at p.next p.at p.count p.pending p.n
-
--- the last line ended asks this
-unfoldable pub asking_at : ℕ → ℕ → ℕ → ℕ → Asked → Position
-asking_at next at count n asked = record { next = next; at = at; count = count; pending = none_yet; n = n; asks = true; asked = asked }
 
 -- what is printed for the bytes still to come, where nothing is asked, and where an operation with this result was asked
 unfoldable pub rest_output : Position → List Node → List ℕ → List ℕ → List ℕ
@@ -50,14 +44,18 @@ rest_output p nodes store bs = buffered_output p.count p.pending (record { n = p
 
 unfoldable pub answer_output : Position → Result → List ℕ → List ℕ
 answer_output p result bs =
-    output_line p.count (reply.Answered result.answer) ++ buffered_output p.count p.pending (record { n = size_then p.asked p.n result.answer; nodes = result.table }) result.store bs
+    output_line p.count (Some result.answer) ++ buffered_output p.count p.pending (record { n = size_then p.asked p.n result.answer; nodes = result.table }) result.store bs
+
+unfoldable pub asked_output : Option Asked → Position → List Node → List ℕ → List ℕ → List ℕ
+asked_output (Some asked) p nodes store bs = answer_output p (operated_first asked nodes store) bs
+asked_output None p nodes store bs = rest_output p nodes store bs
 
 unfoldable pub position_output : Position → List Node → List ℕ → List ℕ → List ℕ
-position_output p nodes store bs = cond p.asks (answer_output p (operated_first p.asked nodes store) bs) (rest_output p nodes store bs)
+position_output p nodes store bs = asked_output p.asked p nodes store bs
 
 -- the bytes of `out` that are taken, with room for the answer of what is asked
 unfoldable pub room_taken : Position → ℕ
-room_taken p = cond p.asks (p.at + line_room) p.at
+room_taken p = cond (is_some p.asked) (p.at + line_room) p.at
 
 -- a piece of the input was taken up to this position: whatever comes after the piece, the rest of the output is what is
 -- printed from here on
@@ -70,5 +68,5 @@ pub record Reached (piece : List ℕ) (before : Progress) (store_before out : Li
 -- there was no room for another line or no count for it
 pub record Onward (piece : List ℕ) (from : ℕ) (out : List ℕ) (p : Position) : Type 0 where
   pub forward : from ≤ p.next
-  pub further : p.asks ≡ true → (from < p.next) × (p.next ≤ length piece)
-  pub ended : p.asks ≡ false → (from ≤ length piece) → (p.next ≡ length piece) ⊎ ((length out < p.at + line_room) ⊎ (suc p.count ≡ 2 ^ 64))
+  pub further : (asked : Asked) → p.asked ≡ Some asked → (from < p.next) × (p.next ≤ length piece)
+  pub ended : p.asked ≡ None → (from ≤ length piece) → (p.next ≡ length piece) ⊎ ((length out < p.at + line_room) ⊎ (suc p.count ≡ 2 ^ 64))

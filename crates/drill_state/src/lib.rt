@@ -9,24 +9,25 @@ ghost use Rattle.drill_state.specs.Drill.{last_output};
 ghost use Rattle.drill_state.specs.Feeding.{at_start};
 ghost use Rattle.drill_state.specs.Turn.{no_group};
 
-use answers::{Reply, print_line};
+use answers::print_line;
 use item::Incarnation;
 pub use line_reader::{Position, first_line, next_line};
-use protocol::Node;
+use protocol::{Answer, Node};
 use script::LineBuffer;
 
 // A drill between two lines: how many nodes its group has, 0 while no group stands, and the nodes held, of which the
 // first ones are the group's table. The store is lent beside it.
+// Kept: no Option for n, since with none the first 0 nodes are the table, and each definition would say so in a case.
 #[derive(Clone, Copy)]
 pub struct Drill {
     pub n: u64,
     pub nodes: [Node; Node::MAX_NODES],
 }
 
-// What a line prints after its count, and the drill afterwards.
+// What a line prints after its count, its answer or that it is unread, and the drill afterwards.
 #[derive(Clone, Copy)]
 pub struct Turn {
-    pub reply: Reply,
+    pub reply: Option<Answer>,
     pub drill: Drill,
 }
 
@@ -87,5 +88,5 @@ pub fn finish(last: Progress, out: &mut [u8]) -> usize
     if last.count == u64::MAX {
         return 0;
     }
-    print_line(out, 0, last.count + 1, Reply::Unread)
+    print_line(out, 0, last.count + 1, None)
 }

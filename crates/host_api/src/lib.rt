@@ -15,7 +15,7 @@ pub extern "C" fn yagvost_run_script(script: &[u8], out: &mut [u8]) -> usize
     ensures { ScriptRun script.now out.new result }
 {
     let printed = run_script::run(script, out);
-    printed
+    printed.unwrap_or(usize::MAX)
 }
 
 // Whether these bytes are a sound store of a group of `n`.

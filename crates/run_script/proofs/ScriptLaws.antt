@@ -13,7 +13,7 @@ use borrow.Author.Tests.{eq-eqb}
 use Rattle.item.specs.Tests.{by_cond}
 use Rattle.answers.specs.Output.{output_line, line_room}
 use Rattle.answers.proofs.Printing.{line_length}
-use Rattle.answers.specs.declared.Reply.TheVariants as reply
+use Rattle.std.specs.Prelude.{None}
 use Rattle.script.specs.Bytes.{line_feed}
 use Rattle.record.specs.Layout.{record_size}
 use Rattle.store.specs.Records.{record_count}
@@ -32,9 +32,9 @@ use Rattle.run_script.specs.Script.{not_all, ScriptRun}
 last_length : (count len : ℕ) → length (last_output count len) ≤ line_room
 unfolding last_output
 last_length count len =
-    by_cond (λ (l : List ℕ). length l ≤ line_room) (eqb len 0) [] (output_line (suc count) reply.Unread)
+    by_cond (λ (l : List ℕ). length l ≤ line_room) (eqb len 0) [] (output_line (suc count) None)
     (λ _. omega arith)
-    (λ _. line_length (suc count) reply.Unread)
+    (λ _. line_length (suc count) None)
 
 output_length : (bs : List ℕ) (count : ℕ) (line : List ℕ) (drill : Drill) (store : List ℕ)
     → length (output_from count line drill store bs) ≤ line_room * (line_feeds bs + 1)

@@ -10,14 +10,14 @@ use borrow.Author.Tests.{ltb-true, ltb-false, leb-true, leb-false}
 use Rattle.item.specs.Tests.{by_cond}
 use Rattle.script.specs.Line.{line_of}
 use Rattle.script.proofs.Reading.{line_long}
-use Rattle.script.specs.declared.Line.TheVariants.{Unread}
+use Rattle.std.specs.Prelude.{None}
 use Rattle.script.specs.LineBuffer.{most_bytes, none_yet, pushed, pushed_all, buffered_line}
 use Rattle.script.specs.declared.buffer.LineBuffer.{LineBuffer}
 
 -- nothing is lost where only the first 64 bytes are kept
 pub line_kept : (bs : List ℕ) → line_of (take most_bytes bs) ≡ line_of bs
 line_kept bs =
-    by_cond (λ l. line_of (take most_bytes bs) ≡ line_of bs) (leb (length bs) most_bytes) Unread Unread
+    by_cond (λ (l : ℕ). line_of (take most_bytes bs) ≡ line_of bs) (leb (length bs) most_bytes) 0 0
     (λ e. rw (take_all most_bytes bs (leb-true (length bs) most_bytes e)))
     (λ e. let l = leb-false (length bs) most_bytes e in
     line_long (take most_bytes bs) (rw (length-take-le most_bytes bs (omega arith)) (omega arith)) ∙ sym (line_long bs (omega arith)))
@@ -63,6 +63,6 @@ unfolding Holds none_yet
 gathered_length bs = (holds_all none_yet [] bs (refl, refl, refl)).1
 
 -- more bytes than can be kept: unread
-pub buffer_full : (p : LineBuffer) → length p.bytes ≡ most_bytes → most_bytes < p.len → buffered_line p ≡ Unread
+pub buffer_full : (p : LineBuffer) → length p.bytes ≡ most_bytes → most_bytes < p.len → buffered_line p ≡ None
 unfolding buffered_line
 buffer_full p e h = rw (take_all p.len p.bytes (omega arith)) (line_long p.bytes (omega arith))

@@ -1,36 +1,49 @@
 -- Laws of reading a line: the word before the first space, and that a line of more than 43 bytes is unread.
-use Prim.Native.Nat.{ℕ, suc, ◌+◌, ◌-◌, ◌<◌, ◌≤◌}
+use Prim.Native.Nat.{ℕ, ◌+◌, ◌-◌, ◌<◌, ◌≤◌}
 use native.Mathlib.Numerals.{add-one}
 use native.Mathlib.Omega.{arith}
 use mathlib.Core.Path.{◌≡◌, refl, sym, ap, ◌∙◌}
-use mathlib.Core.Bool.{Bool, true, false, ◌&&◌}
+use mathlib.Core.Bool.{Bool, true, false, ◌&&◌, not, cond}
 use mathlib.Core.List.{List, [], ◌∷◌}
 use lib.Dec.{ltb, leb, eqb}
 use lib.ListN.{length, get_or, take, drop, drop_of_length-le, length-drop}
-use lib.Seq.{drop-cons, take_all}
-use borrow.Author.Tests.{ltb-true, ltb-false, ne_eqb}
+use lib.Seq.{take_all}
+use borrow.Author.Tests.{ltb-true, ltb-false}
 use Rattle.item.specs.Tests.{by_cond}
 use Rattle.script.specs.Bytes.{space}
 use Rattle.script.specs.Number.{number_in}
 use Rattle.script.proofs.NumberReading.{too_long, none_in}
-use Rattle.script.specs.declared.decimal.Number.{Number}
-use Rattle.script.specs.declared.decimal.Number.TheVariants as number
+use Rattle.std.specs.Prelude.{Option, Some, None}
+use Rattle.std.specs.List.{position, position_or_len}
 use Rattle.script.specs.Line.{word, after_word, tag_of, tag_in, write_with, write_of, one_number, lettered, line_of}
-use Rattle.script.specs.declared.Line.TheVariants.{Unread}
-use Rattle.script.specs.declared.TagField.TheVariants as tag
 
--- the word ends at a space, or goes on
-pub word_ends : (s : List ℕ) (i : ℕ) → i < length s → get_or s i 0 ≡ space → length (word (drop i s)) ≡ 0
-unfolding word
-word_ends s i h e = rw (drop-cons s i 0 h, e)
+-- the first place at which p passes, or none
+position_none : (p : ℕ → Bool) (s : List ℕ) → position p s ≡ None → length s ≤ position_or_len p s
+position_none p s e = by_test (ltb (position_or_len p s) (length s)) refl e
+  where
+    by_test : (t : Bool) → ltb (position_or_len p s) (length s) ≡ t → cond t (Some (position_or_len p s)) None ≡ None → length s ≤ position_or_len p s
+    by_test true t e = absurd (cc)
+    by_test false t e = ltb-false (position_or_len p s) (length s) t
 
-pub word_goes_on : (s : List ℕ) (i : ℕ) → i < length s → (get_or s i 0 ≡ space → ⊥) → length (word (drop i s)) ≡ suc (length (word (drop (i + 1) s)))
-unfolding word
-word_goes_on s i h e = rw (drop-cons s i 0 h, add-one, ne_eqb (get_or s i 0) space e)
+position_some : (p : ℕ → Bool) (s : List ℕ) (k : ℕ) → position p s ≡ Some k → (k ≡ position_or_len p s) × (k < length s)
+position_some p s k e = by_test (ltb (position_or_len p s) (length s)) refl e
+  where
+    by_test : (t : Bool) → ltb (position_or_len p s) (length s) ≡ t → cond t (Some (position_or_len p s)) None ≡ Some k → (k ≡ position_or_len p s) × (k < length s)
+    by_test true t e =
+        let f : position_or_len p s ≡ k = cc in
+        (sym f, omega (arith, f, ltb-true (position_or_len p s) (length s) t))
+    by_test false t e = absurd (cc)
 
-pub word_over : (s : List ℕ) (i : ℕ) → length s ≤ i → length (word (drop i s)) ≡ 0
+-- the word is what stands before the first space
+pub word_before : (s : List ℕ) → length (word s) ≡ position_or_len (λ b. eqb b space) s
 unfolding word
-word_over s i h = rw (drop_of_length-le s h)
+word_before [] = refl
+word_before (b ∷ bs) = by_test (eqb b space) (word_before bs)
+  where
+    by_test : (t : Bool) → length (word bs) ≡ position_or_len (λ b. eqb b space) bs
+        → length (cond t [] (b ∷ word bs)) ≡ cond (not t) (1 + position_or_len (λ b. eqb b space) bs) 0
+    by_test true h = refl
+    by_test false h = omega (arith, h)
 
 -- the word and what stands after it, as parts of the bytes
 pub word_part : (s : List ℕ) → take (length (word s)) s ≡ word s
@@ -63,12 +76,12 @@ word_after (b ∷ bs) = by_test (eqb b space) refl (word_after bs)
     by_test false e ih = rw e (omega arith)
 
 -- no tag, no Write
-pub write_no_tag : (n : Number) → write_with n tag.None ≡ Unread
+pub write_no_tag : (n : Option ℕ) → write_with n None ≡ None
 unfolding write_with
-write_no_tag (number.Is v) = refl
-write_no_tag number.None = refl
+write_no_tag (Some v) = refl
+write_no_tag None = refl
 
-pub no_tag : tag_in [] ≡ tag.None
+pub no_tag : tag_in [] ≡ None
 unfolding tag_in tag_of
 no_tag = rw none_in
 
@@ -82,32 +95,38 @@ pub write_parts : (s : List ℕ) (k : ℕ) → k ≡ length (word s)
 unfolding write_of
 write_parts s k e = rw (e, word_part s, part_rest (length (word s) + 1) s, after_part s)
 
-pub write_one_word : (s : List ℕ) (k : ℕ) → k ≡ length (word s) → length s ≤ k → write_of s ≡ Unread
+pub write_one_word : (s : List ℕ) → position (λ b. eqb b space) s ≡ None → write_of s ≡ None
 unfolding write_of
-write_one_word s k e h =
-    let l : length s ≤ length (word s) + 1 = omega arith in
+write_one_word s e =
+    let l : length s ≤ length (word s) + 1 = omega (arith, word_before s, position_none (λ b. eqb b space) s e) in
     let d : after_word s ≡ [] = sym (after_part s) ∙ drop_of_length-le s l in
     rw (d, no_tag) (write_no_tag (number_in (word s)))
 
+-- where the first space stands, as the length of the word before it
+pub space_at : (s : List ℕ) (k : ℕ) → position (λ b. eqb b space) s ≡ Some k → (k ≡ length (word s)) × (k < length s)
+space_at s k e =
+    let p = position_some (λ b. eqb b space) s k e in
+    (omega (arith, word_before s, p.0), p.1)
+
 -- numbers have at most twenty bytes, and so a Write's at most 41, every other line's at most 20
-write_long : (bs : List ℕ) → 41 < length bs → write_of bs ≡ Unread
+write_long : (bs : List ℕ) → 41 < length bs → write_of bs ≡ None
 unfolding write_of write_with tag_in tag_of
 write_long bs h =
-    by_cond (λ l. write_of bs ≡ Unread) (ltb 20 (length (word bs))) Unread Unread
+    by_cond (λ (l : ℕ). write_of bs ≡ None) (ltb 20 (length (word bs))) 0 0
     (λ e. rw (too_long (word bs) (ltb-true 20 (length (word bs)) e)))
     (λ e. rw (too_long (after_word bs) (omega (arith, word_after bs, ltb-false 20 (length (word bs)) e))) (write_no_tag (number_in (word bs))))
 
-lettered_long : (letter : ℕ) (bs : List ℕ) → 41 < length bs → lettered letter bs ≡ Unread
+lettered_long : (letter : ℕ) (bs : List ℕ) → 41 < length bs → lettered letter bs ≡ None
 unfolding lettered one_number
 lettered_long letter bs h =
-    by_cond (λ l. l ≡ Unread) (eqb letter 119) (write_of bs) (one_number letter (number_in bs))
+    by_cond (λ l. l ≡ None) (eqb letter 119) (write_of bs) (one_number letter (number_in bs))
     (λ e. write_long bs h)
     (λ e. rw (too_long bs (omega arith)))
 
 -- a readable line has at most 43 bytes
-pub line_long : (bs : List ℕ) → 43 < length bs → line_of bs ≡ Unread
+pub line_long : (bs : List ℕ) → 43 < length bs → line_of bs ≡ None
 unfolding line_of
 line_long bs h =
-    by_cond (λ l. l ≡ Unread) (leb 2 (length bs) && eqb (get_or bs 1 0) space) (lettered (get_or bs 0 0) (drop 2 bs)) Unread
+    by_cond (λ l. l ≡ None) (leb 2 (length bs) && eqb (get_or bs 1 0) space) (lettered (get_or bs 0 0) (drop 2 bs)) None
     (λ e. lettered_long (get_or bs 0 0) (drop 2 bs) (rw (length-drop 2 bs) (omega arith)))
     (λ e. refl)

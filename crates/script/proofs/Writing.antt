@@ -14,7 +14,7 @@ use Rattle.script.specs.Number.{is_digit, all_digits, value_from, number_from, l
 use Rattle.script.specs.Digits.{digits_of, decimal_of}
 use Rattle.script.specs.Place.{placed, place_after}
 use Rattle.script.proofs.NumberReading.{and_false}
-use Rattle.script.specs.declared.decimal.Number.TheVariants.{Is}
+use Rattle.std.specs.Prelude.{Some}
 
 -- a tenth of a number of one digit more
 tenth : (k v : ℕ) → v < 10 ^ suc k → v / 10 < 10 ^ k
@@ -114,7 +114,7 @@ no_leading v h = by_size (ltb v 10) refl
         rw (ne_eqb (get_or (digits_of 20 v) 0 0) 48 (first_digit 19 v (omega (arith, ltb-false v 10 e)) (omega arith)), and_false)
 
 -- a number that is written is read back
-pub reads_back : (v : ℕ) → v < 2 ^ 64 → number_in (decimal_of v) ≡ Is v
+pub reads_back : (v : ℕ) → v < 2 ^ 64 → number_in (decimal_of v) ≡ Some v
 unfolding number_in number_from decimal_of
 reads_back v h =
     rw (ne_eqb (length (digits_of 20 v)) 0 (λ z. omega (arith, digits_some 19 v)), no_leading v h, digits_all 20 v, digits_value 19 v (omega arith), lt-ltb v (2 ^ 64) h)

@@ -1,5 +1,5 @@
 -- A line that comes byte by byte, of which at most 64 bytes are kept.
-use Rattle.std.specs.Prelude.{ℕ, suc, cond, List, [], ◌∷◌, ltb, take, set, replicate}
+use Rattle.std.specs.Prelude.{ℕ, suc, cond, List, [], ◌∷◌, ltb, take, set, replicate, Option}
 use Rattle.script.specs.Line.{line_of}
 use Rattle.script.specs.declared.Line.{Line}
 use Rattle.script.specs.declared.buffer.LineBuffer.{LineBuffer}
@@ -20,5 +20,5 @@ pushed_all p [] = p
 pushed_all p (b ∷ bs) = pushed_all (pushed p b) bs
 
 -- the bytes kept, as a line
-unfoldable pub buffered_line : LineBuffer → Line
+unfoldable pub buffered_line : LineBuffer → Option Line
 buffered_line p = line_of (take p.len p.bytes)

@@ -1,7 +1,5 @@
 -- A number as text (document 01, Drill program): "decimal numbers without leading zeros"; "a number above 64 bits" is none.
-use Rattle.std.specs.Prelude.{ℕ, ◌+◌, ◌*◌, ◌-◌, ◌^◌, Bool, true, ◌&&◌, cond, List, [], ◌∷◌, ltb, leb, eqb, length, get_or}
-use Rattle.script.specs.declared.decimal.Number.{Number}
-use Rattle.script.specs.declared.decimal.Number.TheVariants.{Is, None}
+use Rattle.std.specs.Prelude.{ℕ, ◌+◌, ◌*◌, ◌-◌, ◌^◌, Bool, true, ◌&&◌, cond, List, [], ◌∷◌, ltb, leb, eqb, length, get_or, Option, Some, None}
 
 -- `0` to `9`
 unfoldable pub is_digit : ℕ → Bool
@@ -17,13 +15,13 @@ value_from v [] = v
 value_from v (b ∷ bs) = value_from (v * 10 + (b - 48)) bs
 
 -- the number v, and after it digits only: a number if it has at most 64 bits
-unfoldable pub number_from : ℕ → List ℕ → Number
-number_from v bs = cond (all_digits bs && ltb (value_from v bs) (2 ^ 64)) (Is (value_from v bs)) None
+unfoldable pub number_from : ℕ → List ℕ → Option ℕ
+number_from v bs = cond (all_digits bs && ltb (value_from v bs) (2 ^ 64)) (Some (value_from v bs)) None
 
 -- a zero before further bytes
 unfoldable pub leading_zero : List ℕ → Bool
 leading_zero bs = leb 2 (length bs) && eqb (get_or bs 0 0) 48
 
 -- at least one byte, no leading zero, digits only, at most 64 bits
-unfoldable pub number_in : List ℕ → Number
+unfoldable pub number_in : List ℕ → Option ℕ
 number_in bs = cond (eqb (length bs) 0) None (cond (leading_zero bs) None (number_from 0 bs))

@@ -6,6 +6,8 @@ use crate::{Line, read_line};
 
 // The bytes of the present line that have come so far. A line of more than 64 bytes is no longer than 64 here; both
 // are unread, as every line of more than 43 bytes is.
+// Kept: fixed memory is a rule of the project, so the bytes stand beside their number. A type invariant of the number
+// would put a proof into each definition that makes such a value, to save the one test in `read`.
 #[derive(Clone, Copy)]
 pub struct LineBuffer {
     pub bytes: [u8; LineBuffer::MOST],
@@ -22,36 +24,28 @@ impl LineBuffer {
         ensures { result ≡ none_yet }
     {
         LineBuffer {
-            bytes: [0u8; LineBuffer::MOST],
+            bytes: [0; LineBuffer::MOST],
             len: 0,
         }
     }
 
-    // The line with one more byte.
+    // One more byte comes.
     #[tactic(auto, unfolding(crate::specs::LineBuffer::pushed))]
-    pub fn push(self, b: u8) -> LineBuffer
-        ensures { result ≡ pushed self b }
+    pub fn push(&mut self, b: u8)
+        ensures { self.new ≡ pushed self.old b }
     {
         let len = self.len;
-        if LineBuffer::MOST <= len {
-            return self;
+        if len < LineBuffer::MOST {
+            self.bytes[len] = b;
+            self.len = len + 1;
         }
-        let mut next = self;
-        next.bytes[len] = b;
-        next.len = len + 1;
-        next
     }
-}
 
-// What the bytes that have come ask for, as a whole line.
-#[tactic(auto, unfolding(crate::specs::LineBuffer::buffered_line))]
-pub fn read_buffer(p: LineBuffer) -> Line
-    ensures { result ≡ buffered_line p }
-{
-    let bytes = p.bytes;
-    let len = p.len;
-    if LineBuffer::MOST < len {
-        return Line::Unread;
+    // What the bytes that have come ask for, as a whole line.
+    #[tactic(auto, unfolding(crate::specs::LineBuffer::buffered_line))]
+    pub fn read(&self) -> Option<Line>
+        ensures { result ≡ buffered_line self.now }
+    {
+        read_line(self.bytes.get(..self.len)?)
     }
-    read_line(&bytes[..len])
 }

@@ -7,27 +7,17 @@ ghost use Rattle.script.specs.Place.{place_after, placed};
 
 // The most digits that a number takes.
 pub const MAX_DIGITS: usize = 20;
-// The greatest number of 64 bits.
-const LARGEST: u64 = 18446744073709551615;
-
-// What some bytes are as a number.
-#[derive(Clone, Copy)]
-pub enum Number {
-    Is(u64),
-    // They are no number, or one above 64 bits.
-    None,
-}
 
 // The number that the bytes write: digits only, at least one, no leading zero but that of `0`, at most 64 bits.
 #[tactic(auto, unfolding(crate::specs::Number::number_in))]
-pub fn number_in(s: &[u8]) -> Number
+pub fn number_in(s: &[u8]) -> Option<u64>
     ensures { result ≡ number_in s.now }
 {
-    if s.len() == 0 {
-        return Number::None;
+    if s.is_empty() {
+        return None;
     }
     if leading_zero(s) {
-        return Number::None;
+        return None;
     }
     digits_in(s)
 }
@@ -37,45 +27,30 @@ pub fn number_in(s: &[u8]) -> Number
 fn leading_zero(s: &[u8]) -> bool
     ensures { result ≡ leading_zero s.now }
 {
-    if s.len() < 2 {
-        return false;
-    }
-    s[0] == b'0'
+    1 < s.len() && s[0] == b'0'
 }
 
 // The number that the digits write, leading zeros or not.
-fn digits_in(s: &[u8]) -> Number
+fn digits_in(s: &[u8]) -> Option<u64>
     ensures { result ≡ number_from 0 s.now }
 {
-    let mut v: u64 = 0;
-    let mut i = 0;
-    while i < s.len() {
-        let next = with_digit(v, s[i]);
-        let Number::Is(w) = next else {
-            return Number::None;
-        };
-        v = w;
-        i += 1;
+    let mut v = 0;
+    for b in s {
+        v = with_digit(v, *b)?;
     }
-    Number::Is(v)
+    Some(v)
 }
 
 // The number with one more digit after it.
 #[tactic(auto, unfolding(crate::specs::Number::number_from, crate::specs::Number::all_digits, crate::specs::Number::value_from, crate::specs::Number::is_digit))]
-fn with_digit(v: u64, b: u8) -> Number
+fn with_digit(v: u64, b: u8) -> Option<u64>
     ensures { result ≡ number_from v (b ∷ []) }
 {
-    if b < b'0' {
-        return Number::None;
+    if !b.is_ascii_digit() {
+        return None;
     }
-    if b'9' < b {
-        return Number::None;
-    }
-    let d = (b - b'0') as u64;
-    if (LARGEST - d) / 10 < v {
-        return Number::None;
-    }
-    Number::Is(v * 10 + d)
+    let tens = v.checked_mul(10)?;
+    tens.checked_add((b - b'0') as u64)
 }
 
 // Writes v in decimal at the place, and gives the place after it. Where fewer bytes are left than the longest number

@@ -4,132 +4,85 @@
 mod buffer;
 mod decimal;
 
-ghost use Rattle.std.specs.Prelude.{◌≡◌, length};
-ghost use Rattle.script.specs.Line.{lettered, line_of, tag_in, with_number, word, write_of};
+ghost use Rattle.std.specs.Prelude.{◌≡◌, ◌==◌, position};
+ghost use Rattle.script.specs.Bytes.{space};
+ghost use Rattle.script.specs.Line.{lettered, line_of, with_number, write_of};
 
-pub use buffer::{LineBuffer, read_buffer};
+pub use buffer::LineBuffer;
+use decimal::number_in;
 pub use decimal::put_number;
-use decimal::{Number, number_in};
 use item::Tag;
 use protocol::Event;
 
-// What an input line asks for.
+// What an input line asks for. Where a line has none of these forms, there is no `Line`.
 #[derive(Clone, Copy)]
 pub enum Line {
     // A group of this many nodes, set up.
     SetUp(u64),
     Call(Event),
-    // The line has none of these forms.
-    Unread,
 }
 
-// What a line asks of the group: the set-up of a group of n, or an event of the group of n that stands.
+// What a line asks of the group: the set-up of a group of so many nodes, or an event of the group of n that stands.
 #[derive(Clone, Copy)]
-pub struct Asked {
-    pub n: u64,
-    // Whether a group begins: it is a set-up, and the event is not looked at.
-    pub begins: bool,
-    pub event: Event,
-}
-
-// What some bytes are as a tag.
-#[derive(Clone, Copy)]
-pub enum TagField {
-    Is(Tag),
-    None,
+pub enum Asked {
+    SetUp(u64),
+    Call { n: u64, event: Event },
 }
 
 // What the line asks for: a letter, a space, and the numbers that the letter takes, separated by one space.
 #[tactic(auto, unfolding(crate::specs::Line::line_of))]
-fn read_line(s: &[u8]) -> Line
+fn read_line(s: &[u8]) -> Option<Line>
     ensures { result ≡ line_of s.now }
 {
     if s.len() < 2 {
-        return Line::Unread;
+        return None;
     }
     if s[1] != b' ' {
-        return Line::Unread;
+        return None;
     }
-    let letter = s[0];
-    lettered_line(letter, &s[2..])
+    lettered_line(s[0], &s[2..])
 }
 
 // What a letter asks for with what stands after its space.
 #[tactic(auto, unfolding(crate::specs::Line::lettered, crate::specs::Line::one_number))]
-fn lettered_line(letter: u8, rest: &[u8]) -> Line
+fn lettered_line(letter: u8, rest: &[u8]) -> Option<Line>
     ensures { result ≡ lettered letter rest.now }
 {
     if letter == b'w' {
         return write_line(rest);
     }
-    let number = number_in(rest);
-    let Number::Is(v) = number else {
-        return Line::Unread;
-    };
-    with_number(letter, v)
+    with_number(letter, number_in(rest)?)
 }
 
 // What a letter that takes one number asks for.
 #[tactic(auto, unfolding(crate::specs::Line::with_number))]
-fn with_number(letter: u8, v: u64) -> Line
+fn with_number(letter: u8, v: u64) -> Option<Line>
     ensures { result ≡ with_number letter v }
 {
     match letter {
-        b'n' => Line::SetUp(v),
-        b'r' => Line::Call(Event::Retry { node: v }),
-        b'c' => Line::Call(Event::Crash { node: v }),
-        b's' => Line::Call(Event::Start { node: v }),
-        b'd' => Line::Call(Event::Deliver { record: v }),
-        b'x' => Line::Call(Event::Drop { record: v }),
-        _ => Line::Unread,
+        b'n' => Some(Line::SetUp(v)),
+        b'r' => Some(Line::Call(Event::Retry { node: v })),
+        b'c' => Some(Line::Call(Event::Crash { node: v })),
+        b's' => Some(Line::Call(Event::Start { node: v })),
+        b'd' => Some(Line::Call(Event::Deliver { record: v })),
+        b'x' => Some(Line::Call(Event::Drop { record: v })),
+        _ => None,
     }
 }
 
 // A Write: a node and a tag, separated by a space.
-#[tactic(auto, unfolding(crate::specs::Line::write_with))]
-fn write_line(s: &[u8]) -> Line
+fn write_line(s: &[u8]) -> Option<Line>
     ensures { result ≡ write_of s.now }
 {
-    let k = word_length(s);
-    if s.len() <= k {
-        return Line::Unread;
-    }
-    let number = number_in(&s[..k]);
-    let Number::Is(node) = number else {
-        return Line::Unread;
-    };
-    let field = tag_in(&s[k + 1..]);
-    let TagField::Is(tag) = field else {
-        return Line::Unread;
-    };
-    Line::Call(Event::Write {
-        node: node,
-        tag: tag,
-    })
+    let k = first_space(s)?;
+    let node = number_in(&s[..k])?;
+    let tag = Tag(number_in(&s[k + 1..])?);
+    Some(Line::Call(Event::Write { node, tag }))
 }
 
-// How many bytes stand before the first space.
-fn word_length(s: &[u8]) -> usize
-    ensures { result ≡ length (word s.now) }
+// Where the first space stands.
+fn first_space(s: &[u8]) -> Option<usize>
+    ensures { result ≡ position (λ b. b == space) s.now }
 {
-    let mut i = 0;
-    while i < s.len() {
-        if s[i] == b' ' {
-            return i;
-        }
-        i += 1;
-    }
-    i
-}
-
-// The tag that the bytes write: a number.
-#[tactic(auto, unfolding(crate::specs::Line::tag_in, crate::specs::Line::tag_of))]
-fn tag_in(s: &[u8]) -> TagField
-    ensures { result ≡ tag_in s.now }
-{
-    let number = number_in(s);
-    match number {
-        Number::Is(v) => TagField::Is(Tag(v)),
-        Number::None => TagField::None,
-    }
+    s.iter().position(|b| *b == b' ')
 }

@@ -95,11 +95,9 @@ fn change(s: &mut [u8], i: usize, at: usize, to: u8) {
     if record::SIZE <= at {
         return;
     }
-    let place = i * record::SIZE + at;
-    if s.len() <= place {
-        return;
+    if let Some(byte) = s.get_mut(i * record::SIZE + at) {
+        *byte = to;
     }
-    s[place] = to;
 }
 
 fn print_chains(out: &mut impl Write, s: &mut [u8]) -> io::Result<()> {

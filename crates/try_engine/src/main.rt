@@ -7,10 +7,12 @@
 //   x: the node's row of node 2 takes index 7 with a tag of its own
 #![tactic(auto)]
 
-use answers::{Reply, print_line};
+ghost use Rattle.std.specs.Prelude.{◌<◌};
+
+use answers::print_line;
 use engine::{crash, deliver, fresh_node, start, write};
 use item::{Attempt, Incarnation, Index, Item, Row, Tag};
-use message::Envelope;
+use message::{Envelope, Message};
 use node::with_row;
 use outbox::{outgoing_to, row_items};
 use protocol::{Answer, Node, Sends, Step};
@@ -22,7 +24,9 @@ use std::io::Write;
 const NODES: usize = 3;
 
 // The node that a script's digit names.
-fn node_at(digit: u8) -> usize {
+fn node_at(digit: u8) -> usize
+    ensures { result < 3 }
+{
     match digit {
         b'0' => 0,
         b'1' => 1,
@@ -30,73 +34,50 @@ fn node_at(digit: u8) -> usize {
     }
 }
 
-fn word(out: &mut impl Write, text: &[u8], x: u64) -> io::Result<()> {
-    out.write_all(text)?;
-    write!(out, "{x}")
-}
-
-// Some of the bytes; nothing where they are not there.
-fn print_part(out: &mut impl Write, bytes: &[u8], start: usize, end: usize) -> io::Result<()> {
-    if end < start {
-        return Ok(());
+// The name of a kind of message.
+fn kind_name(message: Message) -> &'static str {
+    match message {
+        Message::Store { .. } => "Store",
+        Message::Stored { .. } => "Stored",
+        Message::Confirm { .. } => "Confirm",
+        Message::Confirmed { .. } => "Confirmed",
+        Message::Fetch => "Fetch",
+        Message::Table { .. } => "Table",
     }
-    if end <= bytes.len() {
-        out.write_all(&bytes[start..end])?;
-    }
-    Ok(())
-}
-
-// The name of a kind of message, by its number.
-fn print_kind(out: &mut impl Write, kind: u8) -> io::Result<()> {
-    if kind < 1 {
-        return Ok(());
-    }
-    if 6 < kind {
-        return Ok(());
-    }
-    let start = (kind - 1) as usize * 9;
-    print_part(
-        out,
-        b"Store    Stored   Confirm  ConfirmedFetch    Table    ",
-        start,
-        start + 9,
-    )
 }
 
 // One message: to whom, and its fields; 0 where its kind has none.
 fn print_message(out: &mut impl Write, envelope: Envelope) -> io::Result<()> {
     let fields = fields_of(envelope);
-    let other = fields.other;
-    let attempt = fields.attempt;
-    let item = fields.item;
-    print_kind(out, fields.kind)?;
-    word(out, b" to ", fields.addressee as u64)?;
-    word(out, b" other ", other.0 as u64)?;
-    word(out, b" attempt ", attempt.0 as u64)?;
-    word(out, b" item ", item.index.0)?;
-    word(out, b" ", item.tag.0)?;
-    out.write_all(b"\n")
+    let kind = kind_name(envelope.message);
+    let addressee = fields.addressee;
+    let other = fields.other.0;
+    let attempt = fields.attempt.0;
+    let index = fields.item.index.0;
+    let tag = fields.item.tag.0;
+    writeln!(
+        out,
+        "{kind:9} to {addressee} other {other} attempt {attempt} item {index} {tag}"
+    )
 }
 
 fn print_sends(out: &mut impl Write, step: Step, back: usize) -> io::Result<()> {
-    let node = step.node;
-    let sends = step.sends;
-    let mut k: usize = 0;
-    while k < NODES {
-        let place = outgoing_to(node, sends, back, k);
-        let envelope = place.envelope;
+    for k in 0..NODES {
+        let place = outgoing_to(step.node, step.sends, back, k);
         if place.present {
-            print_message(out, envelope)?;
+            print_message(out, place.envelope)?;
         }
-        k += 1;
     }
     Ok(())
 }
 
 fn print_answer(out: &mut impl Write, answer: Answer, count: u64) -> io::Result<()> {
     let mut line = [0u8; answers::LINE_ROOM];
-    let end = print_line(&mut line, 0, count, Reply::Answered(answer));
-    print_part(out, &line, 0, end)
+    let end = print_line(&mut line, 0, count, Some(answer));
+    match line.get(..end) {
+        Some(said) => out.write_all(said),
+        None => Ok(()),
+    }
 }
 
 // What the sender's latest step sent reaches this node.
@@ -148,64 +129,31 @@ fn fresh_step(number: usize) -> Step {
     }
 }
 
-// One line of a script. A node is kept with what its latest line answered and sent.
+// One line of a script, with the space after it. A node is kept with what its latest line answered and sent.
 fn take_line(
     out: &mut impl Write,
-    steps: [Step; NODES],
-    letter: u8,
-    from: usize,
-    to: usize,
+    steps: &mut [Step; NODES],
+    line: &[u8],
     count: u64,
-) -> io::Result<[Step; NODES]> {
-    if NODES <= from {
-        return Ok(steps);
-    }
-    if NODES <= to {
-        return Ok(steps);
-    }
-    let sent = steps[from];
-    let held = steps[to];
-    let step = event(letter, sent, to, held.node);
-    let answer = step.answer;
-    print_answer(out, answer, count)?;
+) -> io::Result<()> {
+    let [letter, from, to, _] = *line else {
+        return Ok(());
+    };
+    let from = node_at(from);
+    let to = node_at(to);
+    let step = event(letter, steps[from], to, steps[to].node);
+    out.write_all(line)?;
+    print_answer(out, step.answer, count)?;
     print_sends(out, step, from)?;
-    let mut next = steps;
-    next[to] = step;
-    Ok(next)
+    steps[to] = step;
+    Ok(())
 }
 
-// The line that ends at this byte of the script, if one does: the fourth byte of each line is a space.
-fn take_byte(
-    out: &mut impl Write,
-    steps: [Step; NODES],
-    script: &[u8],
-    i: usize,
-) -> io::Result<[Step; NODES]> {
-    if script.len() <= i {
-        return Ok(steps);
-    }
-    if i < 3 {
-        return Ok(steps);
-    }
-    if i % 4 != 3 {
-        return Ok(steps);
-    }
-    let letter = script[i - 3];
-    let from = node_at(script[i - 2]);
-    let to = node_at(script[i - 1]);
-    print_part(out, script, i - 3, i + 1)?;
-    take_line(out, steps, letter, from, to, ((i + 1) / 4) as u64)
-}
-
-// Takes the lines of a script; each node is set up by a line of its own.
+// Takes the lines of a script, each of four bytes; each node is set up by a line of its own.
 fn run(out: &mut impl Write, script: &[u8]) -> io::Result<()> {
-    let none = fresh_step(0);
-    let mut steps = [none; NODES];
-    let mut i = 0;
-    while i < script.len() {
-        let next = take_byte(out, steps, script, i)?;
-        steps = next;
-        i += 1;
+    let mut steps = [fresh_step(0); NODES];
+    for (line, count) in script.chunks(4).zip(1..) {
+        take_line(out, &mut steps, line, count)?;
     }
     Ok(())
 }

@@ -101,25 +101,13 @@ fn fill(s: &mut [u8]) {
     put(s, 5, 14, 6, Message::Table { other });
 }
 
-fn wide(x: u8) -> u64 {
-    x as u64
-}
-
-// The byte at place `at`, and the end of a line after each sixteenth.
-fn print_byte(out: &mut impl Write, b: u8, at: usize) -> io::Result<()> {
-    let wide = wide(b);
-    write!(out, "{wide:02x}")?;
-    if at % 16 == 15 {
-        out.write_all(b"\n")?;
-    }
-    Ok(())
-}
-
+// The bytes, and the end of a line after each sixteenth.
 fn print(out: &mut impl Write, s: &[u8]) -> io::Result<()> {
-    let mut i = 0;
-    while i < s.len() {
-        print_byte(out, s[i], i)?;
-        i += 1;
+    for (i, b) in s.iter().enumerate() {
+        write!(out, "{b:02x}")?;
+        if i % 16 == 15 {
+            out.write_all(b"\n")?;
+        }
     }
     Ok(())
 }

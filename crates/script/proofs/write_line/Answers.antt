@@ -1,25 +1,23 @@
--- `script::write_line` meets its contract: the definition by the parts of the bytes before and after the space.
-use native.Mathlib.Omega.{arith}
-use mathlib.Core.Path.{sym, ◌∙◌}
-use lib.Seq.{length-take-le}
-use Rattle.script.proofs.Reading.{write_parts, write_one_word}
-use Rattle.script.specs.Line.{write_with}
+-- `script::write_line` meets its contract: the definition by the parts of the bytes before and after the first space.
+use Rattle.std.proofs.Common.{sym, ◌∙◌}
+use Rattle.script.proofs.Reading.{write_parts, write_one_word, space_at}
+use Rattle.script.specs.Line.{write_with, tag_in, tag_of}
 use Rattle.script.proofs.write_line.Goals as goal
 
-pub returns-then-s-k : goal.returns-then-s-k
-returns-then-s-k c = sym (write_one_word _ _ c.word_length-k.ensures c.if-s-k.true)
+pub returns-in_err-k : goal.returns-in_err-k
+returns-in_err-k c = c.from_residual.ensures ∙ sym (write_one_word _ (sym c.in_err-k.ensures))
 
-pub slice_bounds-number_in-end : goal.slice_bounds-number_in-end
-slice_bounds-number_in-end c = omega (arith, length-take-le c.word_length-k.result c.args.s.now (omega arith))
-
-pub returns-in_default : goal.returns-in_default
+pub returns-in_err-node : goal.returns-in_err-node
 unfolding write_with
-returns-in_default c = rw (write_parts _ _ c.word_length-k.ensures, sym c.number_in-number.ensures ∙ c.in_default.is)
+returns-in_err-node c =
+    rw (c.from_residual-in_err-node.ensures, write_parts _ _ (space_at _ _ (sym c.in_ok-k.ensures)).0, sym c.in_err-node.ensures)
 
-pub returns-in_default-field : goal.returns-in_default-field
-unfolding write_with
-returns-in_default-field c = rw (write_parts _ _ c.word_length-k.ensures, sym c.in-Is.ensures, sym c.tag_in-field.ensures ∙ c.in_default-field.is)
+pub returns-in_err-number_in : goal.returns-in_err-number_in
+unfolding write_with tag_in tag_of
+returns-in_err-number_in c =
+    rw (c.from_residual-in_err-number_in.ensures, write_parts _ _ (space_at _ _ (sym c.in_ok-k.ensures)).0, sym c.in_ok-node.ensures, sym c.in_err-number_in.ensures)
 
 pub returns : goal.returns
-unfolding write_with
-returns c = rw (write_parts _ _ c.word_length-k.ensures, sym c.in-Is.ensures, sym c.in-Is-field.ensures)
+unfolding write_with tag_in tag_of
+returns c =
+    rw (write_parts _ _ (space_at _ _ (sym c.in_ok-k.ensures)).0, sym c.in_ok-node.ensures, sym c.in_ok-number_in.ensures)
