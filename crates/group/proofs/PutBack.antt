@@ -1,13 +1,12 @@
 -- An event at one node by value, and the node put back at its place, is what the protocol says of the whole table.
 use Prim.Native.Nat.{ℕ, ◌*◌}
-use mathlib.Core.Path.{◌≡◌, refl, sym, ap, ◌∙◌}
-use mathlib.Core.Bool.{Bool, true, false, cond}
+use mathlib.Core.Path.{◌≡◌, refl, sym, ap, subst, ◌∙◌}
+use mathlib.Core.Bool.{Bool, true, false, cond, ◌&&◌}
 use mathlib.Core.List.{List}
 use borrow.Author.Tests.{eqb-true}
 use lib.Dec.{ltb}
 use lib.ListN.{length, get_or, set}
 use lib.Seq.{set-get_or}
-use Rattle.message.specs.declared.Outgoing.{Outgoing}
 use Rattle.record.specs.Layout.{record_size, record_of, rows_of}
 use Rattle.store.specs.Change.{put_each, count_outgoing, drop_in}
 use Rattle.store.specs.Head.{group_size}
@@ -15,7 +14,6 @@ use Rattle.store.proofs.Lent.{record_in_lem}
 use Rattle.store.specs.Records.{record_count, right_length, records_of, joined, on_records}
 use Rattle.store.specs.Sound.{sound_records, free_count, message_in, message_at, survey_of, survey}
 use Rattle.operations.specs.Operation as whole
-use Rattle.operations.specs.Operation.{Result}
 use Rattle.protocol.specs.Answer.{is_refused}
 use Rattle.protocol.specs.Node.{row_items}
 use Rattle.protocol.specs.Outgoing.{outgoing}
@@ -31,30 +29,16 @@ use Rattle.protocol.specs.declared.Refusal.{Refusal}
 use Rattle.protocol.specs.declared.Refusal.TheVariants.{StoreLength, Unsound, NoNode, NoRoom, NoMessage}
 use Rattle.protocol.specs.declared.Step.{Step}
 use Rattle.event.specs.Act as one
-use Rattle.event.specs.Act.{Outcome, reading_of, addressee_of, place_of, inspection_of, drop_target_of, handed_back}
-use Rattle.event.specs.declared.NodeResult.{NodeResult}
-use Rattle.event.specs.declared.DropTarget.{DropTarget}
-use Rattle.event.specs.declared.Inspection.{Inspection}
-use Rattle.event.proofs.Laws.{first_table, first_taken, acted_refused, acted_taken, drop_node, drop_target_is}
-use Rattle.table.proofs.Given.{Gives}
-use Rattle.std.specs.Prelude.{None, Option, Some}
+use Rattle.event.specs.Act.{Outcome, Gives, answered, checked, reading_of, addressee_of, place_of, drop_target_of}
+use Rattle.event.proofs.Laws.{sound_drop, dropped_node, drop_target_is}
+use Rattle.group.specs.Perform.{with_table, admitted, GivesAll}
+use Rattle.store.specs.declared.Survey.{Survey}
+use Rattle.std.specs.Prelude.{None, Option, Some, Result, Ok, Err}
 use Rattle.message.specs.declared.Envelope.{Envelope}
 
 -- the node afterwards stands at its place; where the table has none nothing is put
-abbrev put_back : List Node → ℕ → Outcome → Result
+abbrev put_back : List Node → ℕ → Outcome → whole.Result
 put_back table k o = record { answer = o.answer; table = set table k o.node; store = o.store }
-
--- the node at its place is read, the event is carried out on it and the store, and the node is put back
-unfoldable at_place : Event → Bool → Inspection → Option Envelope → List Node → List ℕ → Result
-at_place e sound seen reading table store = put_back table seen.place (one.perform_at e sound seen reading (node_at table seen.place) store)
-
--- what `drop_record` says of a record: its answer and the store, whatever the node is
-abbrev pub Drops : ℕ → Bool → Inspection → Option Envelope → List ℕ → Answer → List ℕ → Type 0
-Drops number sound seen reading store r after = (node : Node) → (r ≡ (one.perform_at (event.Drop number) sound seen reading node store).answer) × (after ≡ (one.perform_at (event.Drop number) sound seen reading node store).store)
-
--- what `act` says of a node: the answer and the node that it hands back, and the store
-abbrev pub Acts : Event → Bool → Inspection → Option Envelope → Node → List ℕ → NodeResult → List ℕ → Type 0
-Acts e sound seen reading node store r after = (r ≡ handed_back (one.perform_at e sound seen reading node store)) × (after ≡ (one.perform_at e sound seen reading node store).store)
 
 -- whose event it is, by what is read of its record
 abbrev place_in : Event → List ℕ → ℕ
@@ -80,7 +64,7 @@ module _ (table : List Node) (store : List ℕ) (k : ℕ) where
     changed change = rw right
 
     -- what it sends
-    sent_at : (step : Step) (out : List Outgoing) → put_back table k (one.sent_by (node_at table k) store (free_count (records_of store)) step out) ≡ whole.sent_by table store (records_of store) k step out
+    sent_at : (step : Step) (out : List (Option Envelope)) → put_back table k (one.sent_by (node_at table k) store (free_count (records_of store)) step out) ≡ whole.sent_by table store (records_of store) k step out
     unfolding one.sent_by whole.sent_by
     sent_at step out =
         back_cond table k (ltb (free_count (records_of store)) (count_outgoing out)) _ _
@@ -95,8 +79,8 @@ module _ (table : List Node) (store : List ℕ) (k : ℕ) where
         (sent_at step (outgoing step.node step.sends back) i))
 
     -- what is seen of a sound store
-    abbrev sound_seen : Inspection
-    sound_seen = record { sound = true; n = group_size (records_of store); free = free_count (records_of store); place = k }
+    abbrev sound_seen : Survey
+    sound_seen = record { n = group_size (records_of store); free = free_count (records_of store) }
 
     step_at : (decide : Node → Step) → put_back table k (one.at_node (node_at table k) store sound_seen k (decide (node_at table k))) ≡ whole.at_node decide k table store (records_of store)
     unfolding one.at_node whole.at_node
@@ -131,91 +115,102 @@ module _ (table : List Node) (store : List ℕ) (right : right_length store ≡ 
   sound_at (event.Drop r) = dropped_at (message_at store r) r ∙ ap (λ (m : Option Envelope). whole.dropped m r table store (records_of store)) (found_at r)
   sound_at (event.Deliver r) = delivered_at (message_at store r) r ∙ ap (λ (m : Option Envelope). whole.delivered m r table store (records_of store)) (found_at r)
 
-module _ (e : Event) (table : List Node) (store : List ℕ) where
-  abbrev reading : Option Envelope
-  reading = reading_of e store
+-- ---- what refuses an event before its node is read
 
-  abbrev place : ℕ
-  place = place_of e reading
+module _ (table : List Node) (store : List ℕ) where
+  abbrev rs : List (List ℕ)
+  rs = records_of store
 
-  abbrev node : Node
-  node = node_at table place
+  -- what an event gives that is admitted, and one that is refused
+  abbrev Admits : Result Survey Refusal → Type 0
+  Admits (Ok seen) =
+      (seen ≡ record { n = group_size rs; free = free_count rs }) × (right_length store ≡ true)
+      × ((e : Event) → whole.perform e table store ≡ whole.on_sound e table store rs)
+  Admits (Err why) = (e : Event) → whole.perform e table store ≡ whole.refuse why table store
 
-  -- as the code does it
-  abbrev by_node : Result
-  by_node = at_place e (sound_table (inspection_of e store reading).n table) (inspection_of e store reading) reading table store
+  wrong_length : right_length store ≡ false → Admits (Err StoreLength)
+  unfolding whole.perform
+  wrong_length p e = rw p
 
-  -- a store that is sound, with a table of any kind
-  seen_sound : right_length store ≡ true → sound_records (records_of store) ≡ true → inspection_of e store reading ≡ record { sound = true; n = group_size (records_of store); free = free_count (records_of store); place = place }
-  unfolding inspection_of survey survey_of
-  seen_sound p q = rw (p, q)
+  wrong_is : right_length store ≡ false → admitted table store ≡ Err StoreLength
+  unfolding admitted with_table checked
+  wrong_is p = rw p
 
-  seen_unsound : right_length store ≡ true → sound_records (records_of store) ≡ false → inspection_of e store reading ≡ record { sound = false; n = 0; free = 0; place = place }
-  unfolding inspection_of survey survey_of
-  seen_unsound p q = rw (p, q)
+  unsound : right_length store ≡ true → (sound_records rs && sound_table (group_size rs) table) ≡ false → Admits (Err Unsound)
+  unfolding whole.perform whole.on_records
+  unsound p q e = rw (p, q)
 
-  -- what the code does, from what it sees
-  abbrev with_seen : Inspection → Result
-  with_seen seen = at_place e (sound_table seen.n table) seen reading table store
+  unsound_store : right_length store ≡ true → sound_records rs ≡ false → admitted table store ≡ Err Unsound
+  unfolding admitted with_table checked survey survey_of
+  unsound_store p q = rw (p, q)
 
-  performed_wrong : right_length store ≡ false → by_node ≡ whole.perform e table store
-  unfolding at_place one.perform_at one.admitted one.first_verdict whole.perform inspection_of
-  performed_wrong p = rw p (refused_at table store place StoreLength)
+  unsound_table : right_length store ≡ true → sound_records rs ≡ true → sound_table (group_size rs) table ≡ false → admitted table store ≡ Err Unsound
+  unfolding admitted with_table checked survey survey_of
+  unsound_table p q h = rw (p, q, h)
 
-  performed_unsound : right_length store ≡ true → sound_records (records_of store) ≡ false → by_node ≡ whole.perform e table store
-  unfolding at_place one.perform_at one.admitted one.first_verdict whole.perform whole.on_records
-  performed_unsound p q = ap with_seen (seen_unsound p q) ∙ rw (p, q) (refused_at table store place Unsound)
+  all_sound : right_length store ≡ true → sound_records rs ≡ true → sound_table (group_size rs) table ≡ true
+      → Admits (Ok (record { n = group_size rs; free = free_count rs }))
+  unfolding whole.perform whole.on_records
+  all_sound p q h = (refl, p, λ e. rw (p, q, h))
 
-  -- on a sound store the table decides
-  judged : (t : Bool) (seen : Inspection) → right_length store ≡ true → seen.sound ≡ true → one.perform_at e t seen reading node store ≡ cond t (one.on_sound e node store seen reading) (one.refuse Unsound node store)
-  judged true seen p q = acted_taken store true seen reading e node (first_taken store true seen p q refl)
-  judged false seen p q = acted_refused store false seen reading e node (first_table store false seen p q refl)
+  sound_is : right_length store ≡ true → sound_records rs ≡ true → sound_table (group_size rs) table ≡ true
+      → admitted table store ≡ Ok (record { n = group_size rs; free = free_count rs })
+  unfolding admitted with_table checked survey survey_of
+  sound_is p q h = rw (p, q, h)
 
-  performed_sound : right_length store ≡ true → sound_records (records_of store) ≡ true → by_node ≡ whole.perform e table store
-  unfolding at_place whole.perform whole.on_records
-  performed_sound p q =
-      ap with_seen (seen_sound p q)
-      ∙ ap (put_back table place) (judged (sound_table (group_size (records_of store)) table) (sound_seen table store place p) p refl)
-      ∙ rw (p, q) (back_cond table place (sound_table (group_size (records_of store)) table) _ _
-      ∙ (λ i. cond (sound_table (group_size (records_of store)) table) (sound_at table store p e i) (refused_at table store place Unsound i)))
+  admits_at : (r s t : Bool) → right_length store ≡ r → sound_records rs ≡ s → sound_table (group_size rs) table ≡ t → Admits (admitted table store)
+  admits_at false s t p q h = subst Admits (sym (wrong_is p)) (wrong_length p)
+  admits_at true false t p q h = subst Admits (sym (unsound_store p q)) (unsound p (rw q))
+  admits_at true true false p q h = subst Admits (sym (unsound_table p q h)) (unsound p (rw (q, h)))
+  admits_at true true true p q h = subst Admits (sym (sound_is p q h)) (all_sound p q h)
 
-  performed_at : (right sound : Bool) → right_length store ≡ right → sound_records (records_of store) ≡ sound → by_node ≡ whole.perform e table store
-  performed_at false sound p q = performed_wrong p
-  performed_at true false p q = performed_unsound p q
-  performed_at true true p q = performed_sound p q
+  admits : {r : Result Survey Refusal} → r ≡ admitted table store → Admits r
+  admits e = subst Admits (sym e) (admits_at (right_length store) (sound_records rs) (sound_table (group_size rs) table) refl refl refl)
 
-  performed : by_node ≡ whole.perform e table store
-  performed = performed_at (right_length store) (sound_records (records_of store)) refl refl
+  -- a refused event leaves table and store as they were
+  pub refused_gives : (e : Event) {why : Refusal} → Err why ≡ admitted table store → {r : Result Answer Refusal} → r ≡ Err why
+      → GivesAll (whole.perform e table store) r table store
+  unfolding whole.refuse
+  refused_gives e p er =
+      let all = admits p e in
+      (ap answered er ∙ ap (λ (o : whole.Result). o.answer) (sym all), ap (λ (o : whole.Result). o.table) (sym all), ap (λ (o : whole.Result). o.store) (sym all))
 
-  -- the calls of `group::perform` one after the other, each with what it ensures
-  module _ (m : Option Envelope) (seen : Inspection) (sound : Bool) (eᵣ : m ≡ reading) (e₀ : seen ≡ inspection_of e store m) (e₁ : sound ≡ sound_table seen.n table) where
-    performed_seen : at_place e sound seen m table store ≡ whole.perform e table store
-    performed_seen =
-        let l : seen ≡ inspection_of e store reading = e₀ ∙ ap (inspection_of e store) eᵣ in
-        let t : sound ≡ sound_table (inspection_of e store reading).n table = e₁ ∙ ap (λ (v : Inspection). sound_table v.n table) l in
-        (λ i. at_place e (t i) (l i) (eᵣ i) table store) ∙ performed
+-- ---- the calls of `group::performing::perform` one after the other, each with what it ensures
 
-    -- a Drop, from the store alone: the node that it would put back is the one that stands there
-    pub dropped_gives : (dropping : DropTarget) (r : Answer) (after : List ℕ) → dropping ≡ drop_target_of e → dropping.drops ≡ true → Drops dropping.number sound seen m store r after
-        → Gives (whole.perform e table store) r table after
-    unfolding at_place
-    dropped_gives dropping r after p drops d =
-        let k = seen.place in
-        let is : event.Drop dropping.number ≡ e = ap (λ (v : DropTarget). event.Drop v.number) p ∙ sym (drop_target_is e (sym (ap (λ (v : DropTarget). v.drops) p) ∙ drops)) in
-        let all : at_place (event.Drop dropping.number) sound seen m table store ≡ whole.perform e table store = ap (λ (v : Event). at_place v sound seen m table store) is ∙ performed_seen in
-        let same : table ≡ (at_place (event.Drop dropping.number) sound seen m table store).table =
-        sym (ap (set table k) (drop_node dropping.number sound seen m (node_at table k) store) ∙ same_node table k) in
-        ((d (node_at table k)).0 ∙ ap (λ (o : Result). o.answer) all, (same ∙ ap (λ (o : Result). o.table) all, (d (node_at table k)).1 ∙ ap (λ (o : Result). o.store) all))
+module _ (e : Event) (table : List Node) (store : List ℕ) (m : Option Envelope) (seen : Survey) (em : m ≡ reading_of e store) (es : Ok seen ≡ admitted table store) where
+  abbrev outcome : Outcome
+  outcome = one.on_sound e (node_at table (place_of e m)) store seen m
 
-    -- any other event, at its place
-    pub acted_gives : (v : Node) (r : NodeResult) (l : List Node) (after : List ℕ) → v ≡ get_or table seen.place no_node → Acts e sound seen m v store r after → l ≡ set table seen.place r.node
-        → Gives (whole.perform e table store) r.answer l after
-    unfolding at_place node_at
-    acted_gives v r l after e₂ e₃ e₄ =
-        let out : r ≡ handed_back (one.perform_at e sound seen m (node_at table seen.place) store) = e₃.0 ∙ ap (λ (d : Node). handed_back (one.perform_at e sound seen m d store)) e₂ in (
-          ap (λ (o : NodeResult). o.answer) out ∙ ap (λ (o : Result). o.answer) performed_seen,
-          (
-            e₄ ∙ ap (λ (o : NodeResult). set table seen.place o.node) out ∙ ap (λ (o : Result). o.table) performed_seen,
-            e₃.1 ∙ ap (λ (d : Node). (one.perform_at e sound seen m d store).store) e₂ ∙ ap (λ (o : Result). o.store) performed_seen,
-          ),
-        )
+  performed : put_back table (place_of e m) outcome ≡ whole.perform e table store
+  performed =
+      let all = admits table store es in
+      (λ i. put_back table (place_of e (em i)) (one.on_sound e (node_at table (place_of e (em i))) store (all.0 i) (em i)))
+      ∙ sound_at table store all.1 e
+      ∙ sym (all.2 e)
+
+  -- a Drop, from the store alone: the node that it would put back is the one that stands there
+  pub dropped_gives : {r : ℕ} (result : Result Answer Refusal) (after : List ℕ) → drop_target_of e ≡ Some r
+      → ((node : Node) → (answered result ≡ (one.dropped m node store r).answer) × (after ≡ (one.dropped m node store r).store))
+      → GivesAll (whole.perform e table store) result table after
+  dropped_gives {r} result after p d =
+      let k = place_of e m in
+      let node = node_at table k in
+      let is : outcome ≡ one.dropped m node store r = sound_drop node store seen m (drop_target_is e p) in
+      let kept : set table k outcome.node ≡ table = ap (λ (o : Outcome). set table k o.node) is ∙ ap (set table k) (dropped_node m node store r) ∙ same_node table k in (
+        (d node).0 ∙ ap (λ (o : Outcome). o.answer) (sym is) ∙ ap (λ (o : whole.Result). o.answer) performed,
+        sym kept ∙ ap (λ (o : whole.Result). o.table) performed,
+        (d node).1 ∙ ap (λ (o : Outcome). o.store) (sym is) ∙ ap (λ (o : whole.Result). o.store) performed,
+      )
+
+  -- any other event, at its place
+  pub acted_gives : (k : ℕ) (v node : Node) (result : Result Answer Refusal) (l : List Node) (after : List ℕ) → k ≡ place_of e m → v ≡ get_or table k no_node
+      → Gives (one.on_sound e v store seen m) result node after → l ≡ set table k node
+      → GivesAll (whole.perform e table store) result l after
+  unfolding node_at
+  acted_gives k v node result l after ek ev g el =
+      let is : one.on_sound e v store seen m ≡ outcome = ap (λ (d : Node). one.on_sound e d store seen m) (ev ∙ ap (λ (j : ℕ). get_or table j no_node) ek) in
+      let put : node ≡ outcome.node = g.1 ∙ ap (λ (o : Outcome). o.node) is in (
+        g.0 ∙ ap (λ (o : Outcome). o.answer) is ∙ ap (λ (o : whole.Result). o.answer) performed,
+        el ∙ (λ i. set table (ek i) (put i)) ∙ ap (λ (o : whole.Result). o.table) performed,
+        g.2 ∙ ap (λ (o : Outcome). o.store) is ∙ ap (λ (o : whole.Result). o.store) performed,
+      )
