@@ -55,10 +55,10 @@ def strip(text):
 
 
 def kept(path, line):
-    """Whether a line `// Kept:` stands from eight lines before the place to twelve after it."""
+    """Whether a line `// Kept:` stands from twelve lines before the place to eleven after it."""
     with open(path, encoding="utf-8") as f:
         lines = f.read().split("\n")
-    return any("// Kept:" in l for l in lines[max(0, line - 9):line + 12])
+    return any("// Kept:" in l for l in lines[max(0, line - 13):line + 12])
 
 
 def point_1():
