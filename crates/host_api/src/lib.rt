@@ -19,16 +19,15 @@ pub extern "C" fn yagvost_run_script(script: &[u8], out: &mut [u8]) -> usize
 }
 
 // Whether these bytes are a sound store of a group of `n`.
-#[tactic(auto, unfolding(crate::specs::Sound::sound_for))]
+#[tactic(auto, unfolding(crate::specs::Sound::sound_for, crate::specs::Sound::of_size))]
 #[unsafe(no_mangle)]
 pub extern "C" fn yagvost_is_sound(store: &[u8], n: u64) -> bool
     ensures { result ≡ sound_for store.now n }
 {
-    let found = store_check::check_store(store);
-    if !found.sound {
-        return false;
+    match store_check::check_store(store) {
+        Some(found) => found.n as u64 == n,
+        None => false,
     }
-    found.n as u64 == n
 }
 
 // The numbers of record `record` of the bytes, read for a group of `n`: next, kind, sender, addressee, the sender's

@@ -6,6 +6,7 @@ use item::{Attempt, Incarnation, Index, Item, Tag};
 use message::{Envelope, Message};
 use std::io;
 use std::io::Write;
+use store::Survey;
 use store_access::links;
 
 // The group.
@@ -51,12 +52,9 @@ fn fill(s: &mut [u8]) {
 // The line of one store.
 fn print(out: &mut impl Write, s: &[u8], name: &[u8]) -> io::Result<()> {
     out.write_all(name)?;
-    let found = store_check::check_store(s);
-    if !found.sound {
+    let Some(Survey { n, free }) = store_check::check_store(s) else {
         return out.write_all(b": unsound\n");
-    }
-    let n = found.n;
-    let free = found.free;
+    };
     writeln!(out, ": sound, n {n}, free {free}")
 }
 

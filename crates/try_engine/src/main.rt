@@ -15,7 +15,7 @@ use item::{Attempt, Incarnation, Index, Item, Row, Tag};
 use message::{Envelope, Message};
 use node::with_row;
 use outbox::{outgoing_to, row_items};
-use protocol::{Answer, Node, Sends, Step};
+use protocol::{Answer, Node, Refusal, Sends, Step};
 use record_write::fields_of;
 use std::io;
 use std::io::Write;
@@ -63,9 +63,8 @@ fn print_message(out: &mut impl Write, envelope: Envelope) -> io::Result<()> {
 
 fn print_sends(out: &mut impl Write, step: Step, back: usize) -> io::Result<()> {
     for k in 0..NODES {
-        let place = outgoing_to(step.node, step.sends, back, k);
-        if place.present {
-            print_message(out, place.envelope)?;
+        if let Some(envelope) = outgoing_to(&step.node, step.sends, back, k) {
+            print_message(out, envelope)?;
         }
     }
     Ok(())
@@ -81,13 +80,10 @@ fn print_answer(out: &mut impl Write, answer: Answer, count: u64) -> io::Result<
 }
 
 // What the sender's latest step sent reaches this node.
-fn handed(from: Step, to: Node) -> Step {
-    let number = to.number;
-    let sender = from.node;
-    let sends = from.sends;
-    let place = outgoing_to(sender, sends, number, number);
-    let envelope = place.envelope;
-    deliver(to, envelope, row_items(sender))
+fn handed(from: Step, to: Node) -> Result<Step, Refusal> {
+    let sent = outgoing_to(&from.node, from.sends, to.number, to.number);
+    let envelope = sent.ok_or(Refusal::NoMessage)?;
+    deliver(to, envelope, row_items(&from.node))
 }
 
 // The node's row of node 2 takes index 7, with the node's number as tag.
@@ -109,14 +105,23 @@ fn disagreeing(node: Node) -> Step {
 }
 
 // What a line's letter does at the node of this number.
-fn event(letter: u8, from: Step, number: usize, node: Node) -> Step {
+fn event(letter: u8, from: Step, number: usize, node: Node) -> Result<Step, Refusal> {
     match letter {
-        b'n' => fresh_step(number),
+        b'n' => Ok(fresh_step(number)),
         b'w' => write(node, Tag(65)),
         b'c' => crash(node),
         b's' => start(node),
-        b'x' => disagreeing(node),
+        b'x' => Ok(disagreeing(node)),
         _ => handed(from, node),
+    }
+}
+
+// A refusal changes nothing of the node.
+fn refused(node: Node, why: Refusal) -> Step {
+    Step {
+        answer: Answer::Refused(why),
+        node,
+        sends: Sends::Nothing,
     }
 }
 
@@ -141,7 +146,11 @@ fn take_line(
     };
     let from = node_at(from);
     let to = node_at(to);
-    let step = event(letter, steps[from], to, steps[to].node);
+    let node = steps[to].node;
+    let step = match event(letter, steps[from], to, node) {
+        Ok(step) => step,
+        Err(why) => refused(node, why),
+    };
     out.write_all(line)?;
     print_answer(out, step.answer, count)?;
     print_sends(out, step, from)?;
