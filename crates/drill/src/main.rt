@@ -38,6 +38,7 @@ fn take_piece(
 {
     let mut written = Ok(());
     let mut from = 0;
+    // Kept: a turn takes as much of the piece as had room, so that there is no item to go over.
     while from < piece.len() {
         let fed = feed(&piece[from..], *progress, store, out);
         let at = fed.at;

@@ -29,7 +29,7 @@ fn fed(position: Position, nodes: [Node; Node::MAX_NODES]) -> Fed
             pending: position.pending,
             drill: Drill {
                 n: position.n,
-                nodes: nodes,
+                nodes,
             },
         },
     }

@@ -18,6 +18,7 @@ pub fn take_lines(
     ensures { (result.asked ≡ None) × Takes piece.now out.old first nodes.old store.old out.new result nodes.new store.new }
 {
     let mut position = first;
+    // Kept: each turn makes the position that the next one looks at, so that there is no list to go over.
     while let Some(asked) = position.asked {
         let answer = operate_first(nodes, store, asked);
         position = next_line(piece, position, answer, out);

@@ -6,6 +6,7 @@ use message::Envelope;
 use protocol::Event;
 
 // The addressee of a message; 0 where there is none.
+// Kept: 0 and no `None`, since the definition of an event reads the table there, and then refuses with 8.
 #[tactic(auto, unfolding(crate::specs::Act::addressee_of))]
 fn addressee(reading: Option<Envelope>) -> usize
     ensures { result ≡ addressee_of reading }

@@ -1,5 +1,6 @@
 // What a host in C or Rust calls: a small boundary of numbers and byte slices over the crates below. A slice is handed over
 // as a pointer and a length.
+// Kept: numbers for none and two functions of one shape, since the C interface has them.
 #![tactic(auto)]
 
 ghost use Rattle.std.specs.Prelude.{◌≡◌};

@@ -16,7 +16,7 @@ fn next_item(item: Item, tag: Tag) -> Item
 {
     Item {
         index: item.index.next(),
-        tag: tag,
+        tag,
     }
 }
 

@@ -1,4 +1,5 @@
 // Down and Fetching: a node that has not its rows.
+// Kept: a function for each test, which names it as the definition does; what is alike in them is `matches!`.
 ghost use Rattle.std.specs.Prelude.{◌≡◌};
 ghost use Rattle.protocol.specs.Phase.{is_down, is_fetching};
 

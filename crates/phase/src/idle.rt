@@ -1,4 +1,5 @@
 // Whether a node has no write under way.
+// Kept: a function for each test, which names it as the definition does; what is alike in them is `matches!`.
 ghost use Rattle.std.specs.Prelude.{◌≡◌};
 ghost use Rattle.protocol.specs.Phase.{is_up_idle, is_idle};
 

@@ -1,4 +1,5 @@
 // The stage of the write that a node that is Returning or Up has under way: the tests on it, and its change.
+// Kept: a function for each test, which names it as the definition does; what is alike in them is `matches!`.
 ghost use Rattle.std.specs.Prelude.{◌≡◌};
 ghost use Rattle.protocol.specs.Phase.{is_storing, is_confirming, at_stage};
 

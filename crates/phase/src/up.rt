@@ -1,4 +1,5 @@
 // Returning and Up: a node that has its rows.
+// Kept: a function for each test, which names it as the definition does; what is alike in them is `matches!`.
 ghost use Rattle.std.specs.Prelude.{◌≡◌};
 ghost use Rattle.protocol.specs.Phase.{is_up, is_returning};
 

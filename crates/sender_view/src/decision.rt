@@ -34,13 +34,14 @@ pub struct Decision {
 }
 
 // The answer "ok", with what changes and what is sent.
+// Kept: beside `node_calls::ok`, as is said there.
 pub fn ok(change: NodeChange, sends: Sends) -> Decision
     ensures { result ≡ ok_with change sends }
 {
     Decision {
         answer: Answer::Ok,
-        change: change,
-        sends: sends,
+        change,
+        sends,
     }
 }
 

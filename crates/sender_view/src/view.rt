@@ -20,7 +20,7 @@ pub struct SenderView {
     pub own: Item,
     // The sender's row.
     pub row: Row,
-    // Whether the sender is counted.
+    // Whether the sender is counted. Kept: a test alone, since no decision asks under which incarnation.
     pub counted: bool,
     // The incarnation under which the sender is asked, if it is.
     pub asked: Option<Incarnation>,

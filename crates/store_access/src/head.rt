@@ -21,6 +21,7 @@ pub const INBOX_SIZE: usize = 2;
 pub const INBOXES: usize = (record::SIZE - INBOXES_AT) / INBOX_SIZE;
 
 // The first free record, 0 if there is none.
+// Kept: 0 is document 01's end of a chain in the bytes, and as a link it is written back as it is.
 #[tactic(auto, unfolding(store::specs::Head::first_free))]
 pub fn first_free(s: &[u8]) -> usize
     ensures { result ≡ first_free (records_of s.now) }

@@ -9,6 +9,7 @@ use endian::zeros;
 use record::layout;
 
 // The record after record `i` on its chain, 0 at the end.
+// Kept: 0 is document 01's end of a chain in the bytes, and as a link it is written back as it is.
 #[tactic(auto, unfolding(record::specs::Layout::next_of, endian::specs::Number::number_at, endian::specs::Number::value, endian::specs::Part::part, endian::specs::Part::whole))]
 pub fn next(s: &[u8], i: usize) -> usize
     ensures { result ≡ next_of (record_of s.now i) }

@@ -3,6 +3,7 @@
 ghost use Rattle.std.specs.Prelude.{◌≡◌, ◌-◌};
 
 // How far `to` lies above `from`; 0 where it does not.
+// Kept: a distance of 0 is a guess like every other, and none has to be told apart.
 pub fn between(from: usize, to: usize) -> usize
     ensures { result ≡ to - from }
 {

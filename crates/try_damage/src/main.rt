@@ -28,10 +28,10 @@ const LAST_AT: usize = 271;
 
 fn put(s: &mut [u8], sender: usize, addressee: usize, message: Message) {
     let envelope = Envelope {
-        sender: sender,
-        addressee: addressee,
+        sender,
+        addressee,
         incarnation: Incarnation(1),
-        message: message,
+        message,
     };
     store_change::put(s, envelope, [Item::zero(); item::MAX_NODES]);
 }

@@ -51,10 +51,10 @@ fn rows() -> [Item; item::MAX_NODES] {
 
 fn put(s: &mut [u8], i: usize, sender: usize, addressee: usize, message: Message) {
     let envelope = Envelope {
-        sender: sender,
-        addressee: addressee,
+        sender,
+        addressee,
         incarnation: Incarnation(INCARNATION),
-        message: message,
+        message,
     };
     record_write::write(s, i, NODES, NEXT, envelope, rows());
 }
