@@ -1,10 +1,7 @@
 -- How a test that a callee answered is read in a proof: `if !r { return .. }`, taken or left, where r is what a definition gives.
 use Rattle.std.specs.Prelude.{◌≡◌, refl, Bool, true, false, not, cond, ◌&&◌}
 use Rattle.std.proofs.Common.{sym, ◌∙◌}
-use Rattle.std.proofs.lemmas.Bool.{false≢true, not-true, not-false}
-
-pub refuted : {r b : Bool} → r ≡ b → not r ≡ true → b ≡ false
-refuted {r} e h = sym e ∙ not-true r h
+use Rattle.std.proofs.lemmas.Bool.{false≢true, not-false}
 
 pub granted : {r b : Bool} → r ≡ b → not r ≡ false → b ≡ true
 granted {r} e h = sym e ∙ not-false r h

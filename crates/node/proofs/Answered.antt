@@ -1,4 +1,4 @@
--- How a test of what a callee answered is read, beside `refuted` and `granted` of the crate `item`: `if r`, taken or left,
+-- How a test of what a callee answered is read, beside `granted` of the crate `item`: `if r`, taken or left,
 -- where r is what a definition gives.
 use mathlib.Core.Path.{◌≡◌, sym, ◌∙◌}
 use mathlib.Core.Bool.{Bool}

@@ -1,4 +1,4 @@
-// One node by value: its rows, its peers, its stage, and each kind of change of it. A number past the last row reads as zero.
+// One node: its rows, its peers, its stage, and each kind of change of it. A number past the last row reads as zero.
 #![tactic(auto)]
 
 mod lifecycle;

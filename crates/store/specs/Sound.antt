@@ -8,8 +8,6 @@ use Rattle.store.specs.Records.{right_length, records_of, record_in}
 use Rattle.store.specs.Head.{first_free, group_size, first_of, head_zero}
 use Rattle.store.specs.Chain.{walk}
 use Rattle.store.specs.declared.Survey.{Survey}
-use Rattle.store.specs.declared.chain.Chain.{Chain}
-use Rattle.store.specs.declared.chain.Chain.TheVariants.{Free, Inbox}
 use Rattle.store.specs.declared.Walked.{Walked}
 use Rattle.message.specs.declared.Envelope.{Envelope}
 
@@ -21,11 +19,6 @@ addressed_to n owner (Some e) =
 
 unfoldable pub belongs_to : ℕ → ℕ → List ℕ → Bool
 belongs_to n owner r = addressed_to n owner (read_record n r)
-
--- whether a record belongs on a chain of a group of n, as one function goes through both kinds
-unfoldable pub belongs_on : Chain → ℕ → List ℕ → Bool
-belongs_on Free n r = zero_after_next r
-belongs_on (Inbox owner) n r = belongs_to n owner r
 
 -- the inboxes of the nodes from k on, `left` of them, one after the other
 unfoldable pub walk_inboxes : ℕ → ℕ → List (List ℕ) → ℕ → Option Walked → Option Walked

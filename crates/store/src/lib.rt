@@ -2,8 +2,6 @@
 // `store_access`, `store_check` and `store_change`, the laws of its chains are in `store_laws`.
 #![tactic(auto)]
 
-pub mod chain;
-
 // The records of a store, the head included.
 pub const RECORDS: usize = 240;
 

@@ -12,7 +12,7 @@ use store_access::{head, links, stride};
 
 // The last record of the chain from record `first`.
 // Kept: a loop with a `continue` where the guess was right. In a `for`, or in a method that the loops over a chain share, the
-// compiler takes the link in place of the guess, and each record waits for it (docs/PERFORMANCE.md).
+// compiler takes the link in place of the guess, and each record waits for it (docs/DECISIONS.md, 15).
 fn last_from(s: &[u8; store::LENGTH], first: usize) -> usize
     ensures { result ≡ last_from record_count (records_of s.now) first }
 {

@@ -71,7 +71,7 @@ impl Belongs for Inbox {
 // A chain from record `first` is followed to its end: how many records it has, or nothing where it comes to a record that is not
 // there, was passed before or does not belong on it.
 // Kept: a loop with a `continue` where the guess was right. In a `for`, or in a method that the loops over a chain share, the
-// compiler takes the link in place of the guess, and each record waits for it (docs/PERFORMANCE.md).
+// compiler takes the link in place of the guess, and each record waits for it (docs/DECISIONS.md, 15).
 pub fn follow<C: Belongs>(
     s: &[u8; store::LENGTH],
     chain: &C,

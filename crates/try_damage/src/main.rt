@@ -50,39 +50,12 @@ fn fill(s: &mut [u8]) {
 }
 
 // The line of one store.
-fn print(out: &mut impl Write, s: &[u8], name: &[u8]) -> io::Result<()> {
-    out.write_all(name)?;
+fn print(out: &mut impl Write, s: &[u8], name: &str) -> io::Result<()> {
+    out.write_all(name.as_bytes())?;
     let Some(Survey { n, free }) = store_check::check_store(s) else {
         return out.write_all(b": unsound\n");
     };
     writeln!(out, ": sound, n {n}, free {free}")
-}
-
-// A store with messages, and `next` after record `i`.
-fn print_linked(
-    out: &mut impl Write,
-    s: &mut [u8],
-    name: &[u8],
-    i: usize,
-    next: usize,
-) -> io::Result<()> {
-    fill(s);
-    links::set_next(s, i, next);
-    print(out, s, name)
-}
-
-// A store with messages, and one byte of record `i` changed.
-fn print_changed(
-    out: &mut impl Write,
-    s: &mut [u8],
-    name: &[u8],
-    i: usize,
-    at: usize,
-    to: u8,
-) -> io::Result<()> {
-    fill(s);
-    change(s, i, at, to);
-    print(out, s, name)
 }
 
 // Byte `at` of record `i` becomes `to`.
@@ -98,53 +71,54 @@ fn change(s: &mut [u8], i: usize, at: usize, to: u8) {
     }
 }
 
-fn print_chains(out: &mut impl Write, s: &mut [u8]) -> io::Result<()> {
-    print_linked(out, s, b"a loop in an inbox", 3, 1)?;
-    print_linked(out, s, b"a loop in the free chain", 239, 4)?;
-    print_linked(out, s, b"a record on two chains", 3, 2)?;
-    print_linked(out, s, b"a record on none", 4, 6)?;
-    print_linked(out, s, b"a next beyond the end", 239, 240)
+// Stores with messages, each with another `next` after a record.
+fn print_linked(out: &mut impl Write, s: &mut [u8]) -> io::Result<()> {
+    for (name, i, next) in [
+        ("a loop in an inbox", 3, 1),
+        ("a loop in the free chain", 239, 4),
+        ("a record on two chains", 3, 2),
+        ("a record on none", 4, 6),
+        ("a next beyond the end", 239, 240),
+    ] {
+        fill(s);
+        links::set_next(s, i, next);
+        print(out, s, name)?;
+    }
+    Ok(())
 }
 
-fn print_heads(out: &mut impl Write, s: &mut [u8]) -> io::Result<()> {
-    print_changed(out, s, b"n 4", 0, SIZE_AT, 4)?;
-    print_changed(out, s, b"a stray byte beside n", 0, SPARE_AT, 1)?;
-    print_changed(out, s, b"a stray byte after the inboxes", 0, REST_AT, 1)
-}
-
-fn print_unused(out: &mut impl Write, s: &mut [u8]) -> io::Result<()> {
-    print_changed(out, s, b"a stray byte in a free record", 239, LAST_AT, 1)?;
-    print_changed(out, s, b"a stray byte in an unused field", 2, ATTEMPT_AT, 1)?;
-    print_changed(out, s, b"a stray byte in an unused row", 1, LAST_AT, 1)
-}
-
-fn print_addresses(out: &mut impl Write, s: &mut [u8]) -> io::Result<()> {
-    print_changed(out, s, b"a wrong owner", 1, ADDRESS_AT, 0x02)?;
-    print_changed(
-        out,
-        s,
-        b"a sender equal to the addressee",
-        1,
-        ADDRESS_AT,
-        0x11,
-    )?;
-    print_changed(out, s, b"a sender not below n", 1, ADDRESS_AT, 0x31)
+// Stores with messages, each with one byte of a record changed.
+fn print_changed(out: &mut impl Write, s: &mut [u8]) -> io::Result<()> {
+    for (name, i, at, to) in [
+        ("n 4", 0, SIZE_AT, 4),
+        ("a stray byte beside n", 0, SPARE_AT, 1),
+        ("a stray byte after the inboxes", 0, REST_AT, 1),
+        ("a stray byte in a free record", 239, LAST_AT, 1),
+        ("a stray byte in an unused field", 2, ATTEMPT_AT, 1),
+        ("a stray byte in an unused row", 1, LAST_AT, 1),
+        ("a wrong owner", 1, ADDRESS_AT, 0x02),
+        ("a sender equal to the addressee", 1, ADDRESS_AT, 0x11),
+        ("a sender not below n", 1, ADDRESS_AT, 0x31),
+    ] {
+        fill(s);
+        change(s, i, at, to);
+        print(out, s, name)?;
+    }
+    Ok(())
 }
 
 fn main(rt: HostRuntime) -> io::Result<()> {
     let mut out = rt.stdout();
     let mut bytes = [0u8; store::LENGTH];
-    print(&mut out, &bytes, b"zeros")?;
+    print(&mut out, &bytes, "zeros")?;
     store_change::set_up(&mut bytes, NODES);
-    print(&mut out, &bytes, b"set up")?;
+    print(&mut out, &bytes, "set up")?;
     fill(&mut bytes);
-    print(&mut out, &bytes, b"with messages")?;
-    print(&mut out, &bytes[0..store::LENGTH - 1], b"one byte short")?;
-    print_chains(&mut out, &mut bytes)?;
-    print_heads(&mut out, &mut bytes)?;
-    print_unused(&mut out, &mut bytes)?;
-    print_addresses(&mut out, &mut bytes)?;
+    print(&mut out, &bytes, "with messages")?;
+    print(&mut out, &bytes[0..store::LENGTH - 1], "one byte short")?;
+    print_linked(&mut out, &mut bytes)?;
+    print_changed(&mut out, &mut bytes)?;
     fill(&mut bytes);
     store_change::drop_message(&mut bytes, 1, 1);
-    print(&mut out, &bytes, b"one message dropped")
+    print(&mut out, &bytes, "one message dropped")
 }
