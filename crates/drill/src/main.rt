@@ -13,15 +13,9 @@ use std::io::{Read, Result, Write};
 // How often a read that fails is tried, since an interrupted one fails too.
 const TRIES: u64 = 16;
 
-// Says on standard error which of the two failed, input or output; the exit status does not tell. Where that cannot be
-// written either, nothing is said.
-fn say_failed(errors: &mut impl Write, input: bool) {
-    let said: &[u8] = if input {
-        b"input failed\n"
-    } else {
-        b"output failed\n"
-    };
-    let _ = errors.write_all(said);
+// Says on standard error what failed; the exit status does not tell. Where that cannot be written either, nothing is said.
+fn say(errors: &mut impl Write, what_failed: &str) {
+    let _ = errors.write_all(what_failed.as_bytes());
 }
 
 // Takes a piece of the script from where the drill stands, and prints its answers, in as many turns as `out` has room for.
@@ -64,7 +58,7 @@ fn read_block(input: &mut impl Read, errors: &mut impl Write, block: &mut [u8]) 
             return got;
         }
     }
-    say_failed(errors, true);
+    say(errors, "input failed\n");
     0
 }
 
@@ -91,7 +85,7 @@ fn main(rt: HostRuntime) {
             &mut output,
         );
         if taken.is_err() {
-            say_failed(&mut errors, false);
+            say(&mut errors, "output failed\n");
             break;
         }
     }

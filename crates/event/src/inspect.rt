@@ -11,10 +11,7 @@ use protocol::Event;
 fn addressee(reading: Option<Envelope>) -> usize
     ensures { result ≡ addressee_of reading }
 {
-    match reading {
-        Some(envelope) => envelope.addressee,
-        None => 0,
-    }
+    reading.map_or(0, |envelope| envelope.addressee)
 }
 
 // Whose event it is: the node number given, or the addressee of the message.
@@ -23,12 +20,11 @@ pub fn place(event: Event, reading: Option<Envelope>) -> usize
     ensures { result ≡ place_of event reading }
 {
     match event {
-        Event::Write { node, tag: _ } => node as usize,
-        Event::Retry { node } => node as usize,
-        Event::Crash { node } => node as usize,
-        Event::Start { node } => node as usize,
-        Event::Drop { record: _ } => addressee(reading),
-        Event::Deliver { record: _ } => addressee(reading),
+        Event::Write { node, .. }
+        | Event::Retry { node }
+        | Event::Crash { node }
+        | Event::Start { node } => node as usize,
+        Event::Drop { .. } | Event::Deliver { .. } => addressee(reading),
     }
 }
 
@@ -49,8 +45,7 @@ pub fn read(s: &[u8], event: Event) -> Option<Envelope>
     ensures { result ≡ reading_of event s.now }
 {
     match event {
-        Event::Drop { record } => store_access::message(s, record),
-        Event::Deliver { record } => store_access::message(s, record),
+        Event::Drop { record } | Event::Deliver { record } => store_access::message(s, record),
         _ => None,
     }
 }

@@ -14,8 +14,5 @@ use protocol::{Answer, Event, Node};
 pub fn perform(table: &mut [Node], store: &mut [u8], event: Event) -> Answer
     ensures { (result ≡ (operation.perform event table.old store.old).answer) × ((table.new ≡ (operation.perform event table.old store.old).table) × (store.new ≡ (operation.perform event table.old store.old).store)) }
 {
-    match performing::perform(table, store, event) {
-        Ok(answer) => answer,
-        Err(why) => Answer::Refused(why),
-    }
+    performing::perform(table, store, event).unwrap_or_else(Answer::Refused)
 }

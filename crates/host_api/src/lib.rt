@@ -25,10 +25,7 @@ pub extern "C" fn yagvost_run_script(script: &[u8], out: &mut [u8]) -> usize
 pub extern "C" fn yagvost_is_sound(store: &[u8], n: u64) -> bool
     ensures { result ≡ sound_for store.now n }
 {
-    match store_check::check_store(store) {
-        Some(found) => found.n as u64 == n,
-        None => false,
-    }
+    store_check::check_store(store).is_some_and(|found| found.n as u64 == n)
 }
 
 // The numbers of record `record` of the bytes, read for a group of `n`: next, kind, sender, addressee, the sender's

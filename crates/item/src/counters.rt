@@ -5,15 +5,15 @@ ghost use Rattle.std.specs.Prelude.{◌≡◌};
 ghost use Rattle.item.specs.Counter.{index_at_largest, next_index, incarnation_at_largest, next_incarnation, attempt_at_largest, next_attempt, earlier};
 
 // The number of a write. An index, an incarnation and an attempt are separate counters.
-#[derive(Clone, Copy, PartialEq, Eq, PartialOrd, Ord)]
+#[derive(Clone, Copy, PartialEq, Eq, PartialOrd, Ord, Default)]
 pub struct Index(pub u64);
 
 // How often a node has started, counted from 1.
-#[derive(Clone, Copy, PartialEq, Eq, PartialOrd, Ord)]
+#[derive(Clone, Copy, PartialEq, Eq, PartialOrd, Ord, Default)]
 pub struct Incarnation(pub u32);
 
 // How often a node has sent a write in its present incarnation.
-#[derive(Clone, Copy, PartialEq, Eq, PartialOrd, Ord)]
+#[derive(Clone, Copy, PartialEq, Eq, PartialOrd, Ord, Default)]
 pub struct Attempt(pub u32);
 
 impl Index {

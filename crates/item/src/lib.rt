@@ -5,7 +5,7 @@ mod counters;
 
 ghost use Rattle.std.specs.Prelude.{◌≡◌};
 ghost use Rattle.item.specs.Counter.{same_attempt, same_incarnation};
-ghost use Rattle.item.specs.Item.{ranks_below, same_item, zero_item};
+ghost use Rattle.item.specs.Item.{tags_agree, ranks_below, same_item, zero_item};
 ghost use Rattle.item.specs.Maxima.{valid_size};
 ghost use Rattle.item.specs.Row.{same_row, zero_row};
 
@@ -23,11 +23,11 @@ pub fn valid_size(n: usize) -> bool
 }
 
 // What a write stores beside its index: the caller's digest, never computed with.
-#[derive(Clone, Copy, PartialEq, Eq)]
+#[derive(Clone, Copy, PartialEq, Eq, Default)]
 pub struct Tag(pub u64);
 
 // An item (a term of document 01): an index with a tag.
-#[derive(Clone, Copy, PartialEq, Eq)]
+#[derive(Clone, Copy, PartialEq, Eq, Default)]
 pub struct Item {
     pub index: Index,
     pub tag: Tag,
@@ -35,7 +35,7 @@ pub struct Item {
 
 // A row (a term of document 01): an item with the writer's incarnation and attempt that last stored it, and whether
 // its greatest index has come with two tags.
-#[derive(Clone, Copy, PartialEq, Eq)]
+#[derive(Clone, Copy, PartialEq, Eq, Default)]
 pub struct Row {
     pub item: Item,
     pub incarnation: Incarnation,
@@ -54,10 +54,7 @@ impl Item {
     pub fn zero() -> Item
         ensures { result ≡ zero_item }
     {
-        Item {
-            index: Index(0),
-            tag: Tag(0),
-        }
+        Item::default()
     }
 
     // Whether this item ranks below the item. Items rank by their index.
@@ -75,20 +72,16 @@ impl Row {
     pub fn zero() -> Row
         ensures { result ≡ zero_row }
     {
-        Row {
-            item: Item::zero(),
-            incarnation: Incarnation(0),
-            attempt: Attempt(0),
-            marked: false,
-        }
+        Row::default()
     }
 }
 
-// What the derived `==` compares: the number of a counter, index and tag of an item, every field of a row.
+// What the derived `==` compares: the number of a counter or a tag, index and tag of an item, every field of a row.
 #[tactic(auto, unfolding(crate::specs::Row::same_row, crate::specs::Item::same_item, crate::specs::Item::tags_agree, crate::specs::Counter::same_incarnation, crate::specs::Counter::same_attempt))]
 pub fn derived_equality()
     ensures incarnations { (i j : Incarnation) → ⟦<Incarnation as PartialEq>⟧.eq i j ≡ same_incarnation i j }
     ensures attempts { (a b : Attempt) → ⟦<Attempt as PartialEq>⟧.eq a b ≡ same_attempt a b }
+    ensures tags { (t u : Tag) → ⟦<Tag as PartialEq>⟧.eq t u ≡ tags_agree t u }
     ensures items { (i j : Item) → ⟦<Item as PartialEq>⟧.eq i j ≡ same_item i j }
     ensures rows { (r s : Row) → ⟦<Row as PartialEq>⟧.eq r s ≡ same_row r s }
 {}

@@ -31,9 +31,8 @@ pub fn at_stage(phase: Phase, stage: Stage) -> Phase
     ensures { result ≡ at_stage phase stage }
 {
     match phase {
-        Phase::Down => Phase::Down,
-        Phase::Fetching => Phase::Fetching,
         Phase::Returning(_) => Phase::Returning(stage),
         Phase::Up(_) => Phase::Up(stage),
+        _ => phase,
     }
 }

@@ -49,39 +49,39 @@ pub struct Node {
     pub asked: [Option<Incarnation>; Node::MAX_ROWS],
 }
 
-// Why a call is refused. `refusal_number` gives document 01's number of each.
+// Why a call is refused, by document 01's number (`refusal_number` in specs/).
 #[derive(Clone, Copy)]
 pub enum Refusal {
-    // 1: n is not valid, or the table has not n nodes.
-    GroupSize,
-    // 2: the store has not the length of a store.
-    StoreLength,
-    // 3: store or table is unsound.
-    Unsound,
-    // 4: no node has this number.
-    NoNode,
-    // 5: the node's stage does not allow the call.
-    WrongStage,
-    // 6: a counter that would rise is at its largest.
-    AtLargest,
-    // 7: too few free records.
-    NoRoom,
-    // 8: the record is on no inbox chain.
-    NoMessage,
-    // 9: the addressee's stage does not take this kind of message.
-    NotTaken,
-    // 10: the message belongs to another incarnation, attempt or item.
-    Stale,
-    // 11: the sender is counted already.
-    Counted,
-    // 12: the row has an item that ranks above the one to store.
-    LowerRank,
-    // 13: the row has an item of the same rank with another tag.
-    OtherTag,
+    // N is not valid, or the table has not n nodes.
+    GroupSize = 1,
+    // The store has not the length of a store.
+    StoreLength = 2,
+    // Store or table is unsound.
+    Unsound = 3,
+    // No node has this number.
+    NoNode = 4,
+    // The node's stage does not allow the call.
+    WrongStage = 5,
+    // A counter that would rise is at its largest.
+    AtLargest = 6,
+    // Too few free records.
+    NoRoom = 7,
+    // The record is on no inbox chain.
+    NoMessage = 8,
+    // The addressee's stage does not take this kind of message.
+    NotTaken = 9,
+    // The message belongs to another incarnation, attempt or item.
+    Stale = 10,
+    // The sender is counted already.
+    Counted = 11,
+    // The row has an item that ranks above the one to store.
+    LowerRank = 12,
+    // The row has an item of the same rank with another tag.
+    OtherTag = 13,
 }
 
 // What a call answers.
-// Kept: a `Result` would need a second enum for the four that are no refusal, and "ok" would be `Ok(Ok)`.
+// Kept: every definition and law of a step reads its answer, refused or not; with a `Result` there each would be told anew.
 #[derive(Clone, Copy)]
 pub enum Answer {
     Ok,

@@ -94,8 +94,5 @@ fn check_records(s: &[u8; store::LENGTH]) -> Option<Survey>
 pub fn check_store(s: &[u8]) -> Option<Survey>
     ensures { result ≡ survey s.now }
 {
-    match s.as_array() {
-        Some(store) => check_records(store),
-        None => None,
-    }
+    check_records(s.as_array()?)
 }

@@ -147,10 +147,7 @@ fn take_line(
     let from = node_at(from);
     let to = node_at(to);
     let node = steps[to].node;
-    let step = match event(letter, steps[from], to, node) {
-        Ok(step) => step,
-        Err(why) => refused(node, why),
-    };
+    let step = event(letter, steps[from], to, node).unwrap_or_else(|why| refused(node, why));
     out.write_all(line)?;
     print_answer(out, step.answer, count)?;
     print_sends(out, step, from)?;

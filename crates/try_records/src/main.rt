@@ -63,42 +63,29 @@ fn fill(s: &mut [u8]) {
     let other = Incarnation(OTHER);
     let attempt = Attempt(ATTEMPT);
     let item = item(INDEX, TAG);
-    put(s, 0, 9, 1, Message::Store { attempt, item });
-    put(
-        s,
-        1,
-        10,
-        2,
+    let messages = [
+        Message::Store { attempt, item },
         Message::Stored {
             other,
             attempt,
             item,
         },
-    );
-    put(
-        s,
-        2,
-        11,
-        3,
         Message::Confirm {
             other,
             attempt,
             item,
         },
-    );
-    put(
-        s,
-        3,
-        12,
-        4,
         Message::Confirmed {
             other,
             attempt,
             item,
         },
-    );
-    put(s, 4, 13, 5, Message::Fetch);
-    put(s, 5, 14, 6, Message::Table { other });
+        Message::Fetch,
+        Message::Table { other },
+    ];
+    for (i, message) in messages.iter().enumerate() {
+        put(s, i, 9 + i, 1 + i, *message);
+    }
 }
 
 // The bytes, and the end of a line after each sixteenth.
