@@ -3,7 +3,7 @@ ghost use Rattle.sender_view.specs.Decision.{step_by};
 ghost use Rattle.std.specs.Prelude.{Ok};
 ghost use Rattle.event.specs.Act.{Gives, carried_out};
 
-use outbox::{count_sent, send_each};
+use outbox::Sending;
 use protocol::{Answer, Node, Refusal, Step};
 use sender_view::{Decision, step_of};
 
@@ -22,11 +22,15 @@ pub fn carry_out(
         return Err(why);
     }
     let next = step.node;
-    let sends = step.sends;
-    if free < count_sent(&next, sends, back) {
+    let sending = Sending {
+        node: &next,
+        sends: step.sends,
+        back,
+    };
+    if free < sending.count() {
         return Err(Refusal::NoRoom);
     }
-    send_each(s, &next, sends, back);
+    sending.put_into(s);
     *node = next;
     Ok(step.answer)
 }

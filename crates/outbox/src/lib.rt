@@ -4,5 +4,4 @@
 mod outgoing;
 mod put;
 
-pub use outgoing::{count_sent, outgoing_to, row_items};
-pub use put::send_each;
+pub use outgoing::{Sending, row_items};

@@ -12,6 +12,16 @@ use message::{Envelope, Message};
 use node::peer_of;
 use protocol::{Node, Sends};
 
+// What a node sends by a decision.
+#[derive(Clone, Copy)]
+pub struct Sending<'a> {
+    // The node after the decision.
+    pub node: &'a Node,
+    pub sends: Sends,
+    // The sender of the message delivered.
+    pub back: usize,
+}
+
 // Confirm to peer `k`, if it is asked, with the incarnation under which it answered Stored.
 fn confirm_to(node: &Node, k: usize, attempt: Attempt, item: Item) -> Option<Message>
     ensures { result ≡ option_map (λ other. Confirm other attempt item) (peer_of node.now.asked k) }
@@ -24,46 +34,49 @@ fn confirm_to(node: &Node, k: usize, attempt: Attempt, item: Item) -> Option<Mes
     })
 }
 
-// The message to node `k`, if one goes there. `back` is the sender of the message delivered.
-#[tactic(auto, unfolding(protocol::specs::Outgoing::message_to))]
-fn message_to(node: &Node, sends: Sends, back: usize, k: usize) -> Option<Message>
-    ensures { result ≡ message_to sends node.now back k }
-{
-    match sends {
-        Sends::Nothing => None,
-        Sends::Back(message) => (k == back).then_some(message),
-        Sends::Others(message) => (k != node.number).then_some(message),
-        Sends::Asked(attempt, item) => confirm_to(node, k, attempt, item),
+impl Sending<'_> {
+    // The message to node `k`, if one goes there.
+    #[tactic(auto, unfolding(protocol::specs::Outgoing::message_to))]
+    fn message_to(&self, k: usize) -> Option<Message>
+        ensures { result ≡ message_to self.now.sends self.now.node.now self.now.back k }
+    {
+        match self.sends {
+            Sends::Nothing => None,
+            Sends::Back(message) => (k == self.back).then_some(message),
+            Sends::Others(message) => (k != self.node.number).then_some(message),
+            Sends::Asked(attempt, item) => confirm_to(self.node, k, attempt, item),
+        }
     }
-}
 
-// What goes to node `k`, if anything.
-#[tactic(auto, unfolding(protocol::specs::Outgoing::outgoing_to))]
-pub fn outgoing_to(node: &Node, sends: Sends, back: usize, k: usize) -> Option<Envelope>
-    ensures { result ≡ outgoing_to node.now sends back k }
-{
-    if node.n <= k {
-        return None;
+    // What goes to node `k`, if anything.
+    #[tactic(auto, unfolding(protocol::specs::Outgoing::outgoing_to))]
+    pub fn to(&self, k: usize) -> Option<Envelope>
+        ensures { result ≡ outgoing_to self.now.node.now self.now.sends self.now.back k }
+    {
+        let node = self.node;
+        if node.n <= k {
+            return None;
+        }
+        let message = self.message_to(k)?;
+        Some(Envelope {
+            sender: node.number,
+            addressee: k,
+            incarnation: node.incarnation,
+            message,
+        })
     }
-    let message = message_to(node, sends, back, k)?;
-    Some(Envelope {
-        sender: node.number,
-        addressee: k,
-        incarnation: node.incarnation,
-        message,
-    })
-}
 
-// How many messages are sent.
-#[tactic(auto, unfolding(protocol::specs::Outgoing::outgoing))]
-pub fn count_sent(node: &Node, sends: Sends, back: usize) -> usize
-    ensures { result ≡ count_outgoing (outgoing node.now sends back) }
-{
-    let mut count = 0;
-    for k in 0..item::MAX_NODES {
-        count += usize::from(outgoing_to(node, sends, back, k).is_some());
+    // How many messages are sent.
+    #[tactic(auto, unfolding(protocol::specs::Outgoing::outgoing))]
+    pub fn count(&self) -> usize
+        ensures { result ≡ count_outgoing (outgoing self.now.node.now self.now.sends self.now.back) }
+    {
+        let mut count = 0;
+        for k in 0..item::MAX_NODES {
+            count += usize::from(self.to(k).is_some());
+        }
+        count
     }
-    count
 }
 
 // The items of rows.

@@ -6,33 +6,27 @@ ghost use Rattle.store.specs.Change.{put_each};
 ghost use Rattle.protocol.specs.Node.{row_items};
 ghost use Rattle.protocol.specs.Outgoing.{outgoing_to, outgoing};
 
-use crate::outgoing::{outgoing_to, row_items};
+use crate::outgoing::{Sending, row_items};
 use item::Item;
-use protocol::{Node, Sends};
 
-// The message to node `k`, if one goes there.
-fn send_to(
-    s: &mut [u8],
-    node: &Node,
-    sends: Sends,
-    back: usize,
-    k: usize,
-    items: [Item; item::MAX_NODES],
-)
-    ensures { s.new ≡ on_records (λ rs. put_each rs (outgoing_to node.now sends back k ∷ []) items) s.old }
-{
-    if let Some(envelope) = outgoing_to(node, sends, back, k) {
-        store_change::put(s, envelope, items);
+impl Sending<'_> {
+    // The message to node `k`, if one goes there.
+    fn put_one(&self, s: &mut [u8], k: usize, items: [Item; item::MAX_NODES])
+        ensures { s.new ≡ on_records (λ rs. put_each rs (outgoing_to self.now.node.now self.now.sends self.now.back k ∷ []) items) s.old }
+    {
+        if let Some(envelope) = self.to(k) {
+            store_change::put(s, envelope, items);
+        }
     }
-}
 
-// What the node sends, by rising number; a Table bears the items of its rows.
-#[tactic(auto, unfolding(protocol::specs::Outgoing::outgoing))]
-pub fn send_each(s: &mut [u8], node: &Node, sends: Sends, back: usize)
-    ensures { s.new ≡ on_records (λ rs. put_each rs (outgoing node.now sends back) (row_items node.now)) s.old }
-{
-    let items = row_items(node);
-    for k in 0..item::MAX_NODES {
-        send_to(s, node, sends, back, k, items);
+    // All messages, by rising number; a Table bears the items of the node's rows.
+    #[tactic(auto, unfolding(protocol::specs::Outgoing::outgoing))]
+    pub fn put_into(&self, s: &mut [u8])
+        ensures { s.new ≡ on_records (λ rs. put_each rs (outgoing self.now.node.now self.now.sends self.now.back) (row_items self.now.node.now)) s.old }
+    {
+        let items = row_items(self.node);
+        for k in 0..item::MAX_NODES {
+            self.put_one(s, k, items);
+        }
     }
 }

@@ -14,7 +14,7 @@ use engine::{crash, deliver, fresh_node, start, write};
 use item::{Attempt, Incarnation, Index, Item, Row, Tag};
 use message::{Envelope, Message};
 use node::with_row;
-use outbox::{outgoing_to, row_items};
+use outbox::{Sending, row_items};
 use protocol::{Answer, Node, Refusal, Sends, Step};
 use record_write::fields_of;
 use std::io;
@@ -61,9 +61,19 @@ fn print_message(out: &mut impl Write, envelope: Envelope) -> io::Result<()> {
     )
 }
 
+// What a step sends; `back` is the sender of the message delivered.
+fn sending_of(step: &Step, back: usize) -> Sending<'_> {
+    Sending {
+        node: &step.node,
+        sends: step.sends,
+        back,
+    }
+}
+
 fn print_sends(out: &mut impl Write, step: Step, back: usize) -> io::Result<()> {
+    let sending = sending_of(&step, back);
     for k in 0..NODES {
-        if let Some(envelope) = outgoing_to(&step.node, step.sends, back, k) {
+        if let Some(envelope) = sending.to(k) {
             print_message(out, envelope)?;
         }
     }
@@ -81,7 +91,7 @@ fn print_answer(out: &mut impl Write, answer: Answer, count: u64) -> io::Result<
 
 // What the sender's latest step sent reaches this node.
 fn handed(from: Step, to: Node) -> Result<Step, Refusal> {
-    let sent = outgoing_to(&from.node, from.sends, to.number, to.number);
+    let sent = sending_of(&from, to.number).to(to.number);
     let envelope = sent.ok_or(Refusal::NoMessage)?;
     deliver(to, envelope, row_items(&from.node))
 }

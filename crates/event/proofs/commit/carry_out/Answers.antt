@@ -7,13 +7,13 @@ use Rattle.event.proofs.commit.carry_out.Goals as goal
 pub returns-in-Refused : goal.returns-in-Refused
 returns-in-Refused c = let a = c.args in given (carried_refused a.node.now a.s.now a.free a.back a.step c.in-Refused.is)
 
-pub returns-then-free-count_sent : goal.returns-then-free-count_sent
-returns-then-free-count_sent c =
+pub returns-then-free-count : goal.returns-then-free-count
+returns-then-free-count c =
     let a = c.args in
-    given (carried_full a.node.now a.s.now a.free a.back a.step c.in_default.not-Refused (omega (arith, c.if-free-count_sent.true, c.count_sent.ensures)))
+    given (carried_full a.node.now a.s.now a.free a.back a.step c.in_default.not-Refused (omega (arith, c.if-free-count.true, c.count.ensures)))
 
 pub returns : goal.returns
 returns c =
     let a = c.args in
-    let e = given (carried_sent a.node.now a.s.now a.free a.back a.step c.in_default.not-Refused (omega (arith, c.if-free-count_sent.false, c.count_sent.ensures))) in
-    (e.0, e.1, c.send_each.ensures ∙ e.2)
+    let e = given (carried_sent a.node.now a.s.now a.free a.back a.step c.in_default.not-Refused (omega (arith, c.if-free-count.false, c.count.ensures))) in
+    (e.0, e.1, c.put_into.ensures ∙ e.2)

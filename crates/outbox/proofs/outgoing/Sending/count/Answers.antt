@@ -4,7 +4,7 @@ use native.Mathlib.Omega.{arith}
 use Rattle.std.specs.Prelude.{is_some}
 use Rattle.protocol.specs.Outgoing.{outgoing}
 use Rattle.outbox.proofs.Places.{at_most_one, count_turn, count_end}
-use Rattle.outbox.proofs.outgoing.count_sent.Goals as goal
+use Rattle.outbox.proofs.outgoing.Sending.count.Goals as goal
 
 pub loop-k-init : goal.loop-k-init
 unfolding outgoing
@@ -14,10 +14,10 @@ pub loop-k-preserved : goal.loop-k-preserved
 loop-k-preserved c =
     let l = c.loop-k in
     let a = c.args in
-    let one = c.from-count.ensures ∙ ap bool_byte (c.is_some.ensures ∙ ap is_some c.outgoing_to.ensures) in (
+    let one = c.from-count.ensures ∙ ap bool_byte (c.is_some.ensures ∙ ap is_some c.to.ensures) in (
       omega (arith, l.invariant.0, c.from-count.ensures, at_most_one c.is_some.result),
-      omega (arith, l.invariant.1, one, count_turn a.node.now a.sends a.back l.k c.loop-k-test.true),
+      omega (arith, l.invariant.1, one, count_turn a.self.now.node.now a.self.now.sends a.self.now.back l.k c.loop-k-test.true),
     )
 
 pub returns : goal.returns
-returns c = let l = c.loop-k in let a = c.args in omega (arith, l.invariant.1, count_end a.node.now a.sends a.back l.k c.loop-k-test.false)
+returns c = let l = c.loop-k in let a = c.args in omega (arith, l.invariant.1, count_end a.self.now.node.now a.self.now.sends a.self.now.back l.k c.loop-k-test.false)
