@@ -55,10 +55,11 @@ def strip(text):
 
 
 def kept(path, line):
-    """Whether a line `// Kept:` stands from twelve lines before the place to eleven after it."""
+    """Whether a line `// Kept:` stands at the file's head, or from twelve lines before the place to eleven after it."""
     with open(path, encoding="utf-8") as f:
         lines = f.read().split("\n")
-    return any("// Kept:" in l for l in lines[max(0, line - 13):line + 12])
+    head = next((i for i, l in enumerate(lines) if not l.startswith("//")), 0)
+    return any("// Kept:" in l for l in lines[:head] + lines[max(0, line - 13):line + 12])
 
 
 def point_1():

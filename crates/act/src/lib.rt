@@ -1,5 +1,6 @@
 // An event at one node, with the lent store: everything that decides. Nothing here touches the table: whoever has it reads
 // the node first and puts it back afterwards.
+// Kept: store and node stay apart; a struct of them would hold two `&mut`, and each clause name its fields.
 #![tactic(auto)]
 
 ghost use Rattle.protocol.specs.Answer.{step_after};

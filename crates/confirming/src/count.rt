@@ -11,7 +11,7 @@ use sender_view::{Decision, NodeChange, SenderView, count_sender, own_write};
 
 // Confirmed: refused with 9, with 10 (also where the sender was not asked under this incarnation) or 11; otherwise
 // the sender is counted: at f the write has ended, and the node is Up and Idle.
-// Kept: other, attempt and item stay apart, as in the message; a struct of them would be built for this call alone.
+// Kept: other, attempt and item stay apart, as the fields of `Message` are document 01's.
 #[tactic(auto, unfolding(crate::specs::Decisions::confirmed_decision, item::specs::Counter::same_incarnation))]
 pub fn on_confirmed(
     view: SenderView,

@@ -20,7 +20,7 @@ fn stored_under(row: Row, incarnation: Incarnation, attempt: Attempt, item: Item
 
 // Confirm: refused with 9, or with 10 where the node has started since it stored or the sender's row has something
 // else by now; otherwise Confirmed goes back.
-// Kept: other, attempt and item stay apart, as in the message; a struct of them would be built for this call alone.
+// Kept: other, attempt and item stay apart, as the fields of `Message` are document 01's.
 #[tactic(auto, unfolding(crate::specs::Decisions::confirm_decision, item::specs::Counter::same_incarnation))]
 pub fn on_confirm(
     view: SenderView,

@@ -1,4 +1,5 @@
 // Delivery of the message in a record of the store.
+// Kept: store, node and free records stay apart; a struct of them would hold two `&mut`, and each clause name its fields.
 #![tactic(auto)]
 
 ghost use Rattle.record.specs.Layout.{record_of, rows_of};

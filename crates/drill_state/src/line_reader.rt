@@ -62,6 +62,7 @@ fn asked_by(n: u64, line: Option<Line>) -> Option<Asked>
     }
 }
 
+// Kept: three lines as in `endian::lies_within`, for one width; no crate below both has a slice of output.
 // Whether another line has room where so many bytes can be printed.
 fn has_room(len: usize, at: usize) -> bool
     ensures { result ≡ leb (at + line_room) len }

@@ -1,4 +1,5 @@
 // Little-endian numbers in a slice. A number that does not lie within the slice reads as 0 and is not written.
+// Kept: a slice and a place, where the layout has the number; a part of the slice would have to be shown to begin within it.
 ghost use Rattle.std.specs.Prelude.{◌≡◌, ℕ, ◌+◌, ◌%◌, ◌^◌, ◌≤◌, leb};
 ghost use Rattle.std.proofs.Common.{rules};
 ghost use Rattle.endian.specs.Number.{number_at, with_number};

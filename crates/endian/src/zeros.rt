@@ -2,7 +2,8 @@
 ghost use Rattle.std.specs.Prelude.{◌≡◌, length};
 ghost use Rattle.endian.specs.Zero.{zeros, all_zero};
 
-// Whether every byte is 0. All are compared, by one branch-free loop, which the compiler vectorises.
+// Whether every byte is 0.
+// Kept: `record_words` has the same over numbers of 64 bits, as is said there. All are compared, by one branch-free loop, which the compiler vectorises.
 #[tactic(auto, unfolding(crate::specs::Zero::all_zero))]
 pub fn is_zero(s: &[u8]) -> bool
     ensures { result ≡ all_zero s.now }

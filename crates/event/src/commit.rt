@@ -1,4 +1,5 @@
 // A step carried out: refused where too few records are free, or what it sends goes into the store.
+// Kept: store, node and free records stay apart; a struct of them would hold two `&mut`, and each clause name its fields.
 ghost use Rattle.sender_view.specs.Decision.{step_by};
 ghost use Rattle.std.specs.Prelude.{Ok};
 ghost use Rattle.event.specs.Act.{Gives, carried_out};

@@ -1,4 +1,5 @@
 // The group: its seven operations over a lent table and a lent message store, of any length and content.
+// Kept: answer, table and store one by one in the clause, as document 01 states all three.
 #![tactic(auto)]
 
 mod performing;

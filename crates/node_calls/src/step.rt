@@ -5,7 +5,7 @@ ghost use Rattle.protocol.specs.Answer.{ok as ok_step};
 use protocol::{Answer, Node, Sends, Step};
 
 // The answer "ok", with what is sent.
-// Kept: beside `sender_view::ok`, which makes another record; a trait over both would be longer than they are.
+// Kept: beside `sender_view::ok`; one generic record for both would rename the node of a `Step`, which definitions and laws read.
 #[tactic(auto, unfolding(protocol::specs::Answer::ok))]
 pub fn ok(node: Node, sends: Sends) -> Step
     ensures { result ≡ ok_step node sends }

@@ -41,6 +41,8 @@ pub struct Node {
     pub incarnation: Incarnation,
     pub attempt: Attempt,
     pub phase: Phase,
+    // Kept: three arrays of fixed memory by node number, since document 01 has them apart, and those counted become those asked as
+    // a whole.
     // What each node last stored here; while Fetching, the greatest items of the tables counted.
     pub rows: [Row; Node::MAX_ROWS],
     // The peers whose answers or tables are counted in this stage, each by the incarnation under which it is counted.

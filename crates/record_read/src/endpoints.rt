@@ -1,5 +1,5 @@
 // The sender and the addressee of the message in one record, read from the record's bytes as a slice of its own. A pass over
-// a store asks this of every record on an inbox chain: no message is built.
+// a store asks this of every record on an inbox chain.
 ghost use Rattle.std.specs.Prelude.{◌≡◌};
 ghost use Rattle.record.specs.Record.{read_record};
 ghost use Rattle.record_read.specs.Ends.{ends_of};

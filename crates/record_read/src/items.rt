@@ -1,4 +1,5 @@
 // The rows of one record, read at any place of any slice. A record that does not lie whole within the slice has zero items.
+// Kept: a slice and the number of a record in it, as document 01 names records; any slice and any number may come.
 ghost use Rattle.std.specs.Prelude.{◌≡◌};
 ghost use Rattle.record.specs.Layout.{record_of, rows_of};
 

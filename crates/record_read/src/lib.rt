@@ -1,4 +1,5 @@
 // The message of one record, read at any place of any slice. A record that does not lie whole within the slice is a fault.
+// Kept: a slice and the number of a record in it, as document 01 names records; any slice and any number may come.
 #![tactic(auto)]
 
 pub mod endpoints;

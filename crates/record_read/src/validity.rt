@@ -1,5 +1,5 @@
-// Whether the bytes of one record, as a slice of its own, are a message. No message is built, since a pass over a store asks
-// this of every record on an inbox chain.
+// Whether the bytes of one record, as a slice of its own, are a message. A pass over a store asks this of every record on
+// an inbox chain.
 ghost use Rattle.std.specs.Prelude.{◌≡◌, ◌+◌, ◌*◌, ◌≤◌, drop};
 ghost use Rattle.item.specs.Maxima.{max_nodes};
 ghost use Rattle.endian.specs.Zero.{all_zero};
@@ -12,6 +12,7 @@ use record::kinds::TABLE;
 use record::layout;
 
 // How many rows a record of this kind has in a group of `n`.
+// Kept: beside `record_write::rows_held`, since a byte that is read may be the kind of no message.
 #[tactic(auto, unfolding(crate::specs::Readable::rows_of_kind))]
 pub fn rows_of_kind(kind: u8, n: usize) -> usize
     ensures { result ≡ rows_of_kind kind n }

@@ -1,4 +1,4 @@
-// Whether numbers are a message, and what its fields are. No message is built.
+// Whether numbers are a message, and what its fields are.
 ghost use Rattle.std.specs.Prelude.{◌≡◌, true, false, MatchOption, get_or};
 ghost use Rattle.endian.specs.Zero.{all_zero};
 ghost use Rattle.record_words.specs.Numbers.{fields_from, is_stated, numbers_fit, stated};
@@ -42,7 +42,7 @@ fn fitting_fields(numbers: &[u64; COUNT]) -> Fields
 }
 
 // Whether every number is 0. All are compared, by one branch-free loop, which the compiler vectorises.
-// Kept: `endian::zeros::is_zero` is the same over bytes; one for both needs a trait with `|` and its laws, and a mapped list.
+// Kept: `endian::zeros::is_zero` is the same over bytes; one for both would widen each byte, and the loop over blocks would go.
 #[tactic(auto, unfolding(endian::specs::Zero::all_zero))]
 fn is_zero(numbers: &[u64]) -> bool
     ensures { result ≡ all_zero numbers.now }

@@ -1,4 +1,5 @@
 // What a message has in each field of its record.
+// Kept: no `From<Envelope>`, which may stand only in the crate of `Fields` or of `Envelope`, and these have definitions alone.
 ghost use Rattle.std.specs.Prelude.{◌≡◌};
 ghost use Rattle.record.specs.Kind.{fields_of};
 

@@ -1,5 +1,6 @@
 // The message of one record, written at any place of any slice. A record that does not lie whole within the slice is not
 // written.
+// Kept: a slice and the number of a record in it, as document 01 names records; any slice and any number may come.
 #![tactic(auto)]
 
 mod bytes;

@@ -1,4 +1,6 @@
 // Decimal numbers of at most 64 bits, as text: read from a slice, and written into one.
+// Kept: reading by hand, since `parse` takes a sign and leading zeros; printing by hand, as in `answers`. Slice and place stay two
+// parameters, as there.
 ghost use Rattle.std.specs.Prelude.{◌+◌, ◌<◌, ◌≤◌, ◌≡◌, [], ◌∷◌, length};
 ghost use Rattle.std.proofs.lemmas.List.Edits.{sets};
 ghost use Rattle.script.specs.Number.{leading_zero, number_from, number_in};

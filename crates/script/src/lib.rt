@@ -55,6 +55,7 @@ fn lettered_line(letter: u8, rest: &[u8]) -> Option<Line>
 }
 
 // What a letter that takes one number asks for.
+// Kept: a match, which makes a value for each letter and runs no step.
 #[tactic(auto, unfolding(crate::specs::Line::with_number))]
 fn with_number(letter: u8, v: u64) -> Option<Line>
     ensures { result ≡ with_number letter v }

@@ -20,7 +20,8 @@ pub struct SenderView {
     pub own: Item,
     // The sender's row.
     pub row: Row,
-    // Whether the sender is counted. Kept: a test alone, since no decision asks under which incarnation.
+    // Whether the sender is counted.
+    // Kept: a test alone, since no decision asks under which incarnation.
     pub counted: bool,
     // The incarnation under which the sender is asked, if it is.
     pub asked: Option<Incarnation>,
@@ -58,7 +59,7 @@ pub fn view_of(node: &Node, sender: usize) -> SenderView
 }
 
 // Whether other incarnation, attempt and item are the node's own present ones.
-// Kept: other, attempt and item stay apart, as in the message; a struct of them would be built for this call alone.
+// Kept: other, attempt and item stay apart, as the fields of `Message` are document 01's.
 #[tactic(auto, unfolding(crate::specs::View::own_write_in, item::specs::Counter::same_incarnation, item::specs::Counter::same_attempt, item::specs::Item::same_item, item::specs::Item::tags_agree))]
 pub fn own_write(view: SenderView, other: Incarnation, attempt: Attempt, item: Item) -> bool
     ensures { result ≡ own_write_in view other attempt item }

@@ -14,6 +14,7 @@ pub struct Walked {
     // The records that chains passed.
     pub passed: [bool; RECORDS],
     // How many records the last chain has.
+    // Kept: it counts the last chain alone, and is no length of `passed`.
     pub count: usize,
 }
 

@@ -1,5 +1,6 @@
 // The head of a store: record 0. Its fields are read and changed only here. A head that does not lie whole within the slice
 // is not changed.
+// Kept: 0 where there is no record, as document 01 has it in the bytes; as a link it is written back as it is.
 ghost use Rattle.std.specs.Prelude.{◌≡◌, ◌%◌, set};
 ghost use Rattle.endian.specs.Number.{with_number};
 ghost use Rattle.record.specs.Layout.{record_of, with_record};
@@ -21,7 +22,6 @@ pub const INBOX_SIZE: usize = 2;
 pub const INBOXES: usize = (record::SIZE - INBOXES_AT) / INBOX_SIZE;
 
 // The first free record, 0 if there is none.
-// Kept: 0 is document 01's end of a chain in the bytes, and as a link it is written back as it is.
 #[tactic(auto, unfolding(store::specs::Head::first_free))]
 pub fn first_free(s: &[u8]) -> usize
     ensures { result ≡ first_free (records_of s.now) }

@@ -1,5 +1,6 @@
 // The link of one record to the next on its chain, and records cleared, at any place of any slice. A record that does not
 // lie whole within the slice has no next, is not zero and is not written.
+// Kept: a slice and the number of a record in it, as document 01 names records; any slice and any number may come.
 ghost use Rattle.std.specs.Prelude.{◌≡◌, drop};
 ghost use Rattle.endian.specs.Zero.{all_zero};
 ghost use Rattle.record.specs.Layout.{kind_at, record_of, with_record, next_of};

@@ -1,5 +1,6 @@
 // One chain of a store followed from its first record on, each record judged as it is passed. The marks of the records
 // passed are lent: a copy of them would take longer than a short chain.
+// Kept: a slice and the number of a record in it, as document 01 names records; any slice and any number may come.
 ghost use Rattle.std.specs.Prelude.{◌≡◌, Bool, List, ℕ, option_map};
 ghost use Rattle.record.specs.Layout.{record_of};
 ghost use Rattle.record.specs.Record.{zero_after_next};

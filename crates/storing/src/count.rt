@@ -10,7 +10,7 @@ use sender_view::{Decision, NodeChange, SenderView, count_sender, ok, own_write}
 
 // Stored: refused with 9, 10 or 11; otherwise the sender is counted: at f Confirming begins, and Confirm goes to exactly those
 // asked.
-// Kept: other, attempt and item stay apart, as in the message; a struct of them would be built for this call alone.
+// Kept: other, attempt and item stay apart, as the fields of `Message` are document 01's.
 #[tactic(auto, unfolding(crate::specs::Decisions::stored_decision))]
 pub fn on_stored(
     view: SenderView,

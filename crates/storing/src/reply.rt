@@ -1,5 +1,7 @@
 // Delivery of Store, decided by the view of its sender: a node that is Up stores it and answers Stored. The incarnation is
 // the envelope's.
+// Kept: view and incarnation stay apart, since the view is of the node and the incarnation of the message; incarnation and attempt
+// too, as `Row` and `Message` have them.
 ghost use Rattle.std.specs.Prelude.{◌≡◌};
 ghost use Rattle.protocol.specs.Storing.{store_verdict};
 ghost use Rattle.storing.specs.Decisions.{store_decision};

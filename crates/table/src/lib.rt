@@ -1,4 +1,5 @@
 // The table: a lent slice of nodes. One is read or replaced, all are checked, all are filled; nothing is decided here.
+// Kept: a slice and the number of a node in it, as document 01 names nodes; any table and any number may come.
 #![tactic(auto)]
 
 mod check;

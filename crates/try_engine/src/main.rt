@@ -115,6 +115,7 @@ fn disagreeing(node: Node) -> Step {
 }
 
 // What a line's letter does at the node of this number.
+// Kept: a match; a table of closures would say each letter and step as it does.
 fn event(letter: u8, from: Step, number: usize, node: Node) -> Result<Step, Refusal> {
     match letter {
         b'n' => Ok(fresh_step(number)),
