@@ -1,4 +1,5 @@
 // The number of a refusal, as document 01 lists it and the drill prints it.
+// Kept: a function for the cast, since `From<Refusal> for u64` may stand in `protocol` alone, which prints nothing.
 ghost use Rattle.std.specs.Prelude.{◌≡◌};
 ghost use Rattle.protocol.specs.Answer.{refusal_number};
 
