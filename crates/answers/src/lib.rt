@@ -1,8 +1,9 @@
 // The drill's output lines, printed into a lent slice.
-// Kept: no `impl Display`, since `write!` promises its bytes only where it gives `Ok`, and no clause says that it does
-// where the text fits; here the bytes are promised wherever a line has room.
-// Kept: slice and place stay two parameters: a struct of them would hold the `&mut`, and each clause would say the same
-// of its fields, with what the slice is when it is given back besides.
+// Kept: slice and place, with a `requires`: writing at the start of a slice, where each function tests its room instead,
+// is proved, but a line that is no call takes 26 ns with it and 21 without.
+// Kept: no struct of them: tried with its room as a ghost field, and the proof of its method for a text did not close.
+// Kept: no `impl Display`: tried through a writer that never fails, and the goal after an `Err` of `writeln!` stays open,
+// since the clauses of `fmt` speak of `Ok` alone.
 #![tactic(auto)]
 
 mod refusals;

@@ -1,6 +1,7 @@
 // Decimal numbers of at most 64 bits, as text: read from a slice, and written into one.
-// Kept: reading by hand, since `parse` takes a sign and leading zeros; printing by hand, as in `answers`. Slice and place stay two
-// parameters, as there.
+// Kept: reading by hand, since `parse` takes a sign and leading zeros.
+// Kept: slice and place, with one test for room: a sibling that writes at the start of a slice, with a test for each digit, is
+// proved, and makes an output line slower (the head of crate `answers` has the times).
 ghost use Rattle.std.specs.Prelude.{◌+◌, ◌<◌, ◌≤◌, ◌≡◌, [], ◌∷◌, length};
 ghost use Rattle.std.proofs.lemmas.List.Edits.{sets};
 ghost use Rattle.script.specs.Number.{leading_zero, number_from, number_in};
