@@ -32,7 +32,7 @@ fn at_node(
 
 // An event at its node, where store and table are sound: `seen` is what is found in the store, and `reading` the message in
 // the event's record.
-pub fn act(
+pub fn on_sound(
     s: &mut [u8],
     node: &mut Node,
     seen: Survey,

@@ -31,7 +31,7 @@ pub fn perform(table: &mut [Node], store: &mut [u8], event: Event) -> Result<Ans
     }
     let k = place(event, reading);
     let mut node = node_at(table, k);
-    let result = act::act(store, &mut node, seen, reading, event);
+    let result = act::on_sound(store, &mut node, seen, reading, event);
     replace_node(table, k, node);
     result
 }

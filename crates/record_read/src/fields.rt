@@ -1,6 +1,6 @@
 // The fields and the rows of one record read from its bytes, as a slice of its own. In a slice that is too short a field
 // reads as 0.
-// Kept: a slice and the number of a record in it, as document 01 names records; any slice and any number may come.
+// Kept: a slice and a place, where the layout has the field; a part of the slice would have to be shown to begin within it.
 ghost use Rattle.std.specs.Prelude.{◌≡◌, ◌≤◌, get_or};
 ghost use Rattle.record.specs.Layout.{record_size, item_in, fields_in, rows_of};
 

@@ -8,7 +8,7 @@ use item::{Attempt, Incarnation, Index, Item, Tag};
 use record::kinds::Fields;
 
 // Whether each number fits its field.
-// Kept: one list of limits; a `try_from` for each number would have as many ways out, each of them a goal.
+// Kept: one list of limits, which is plainer than seven `try_from`; two of the limits are no width of a type.
 #[tactic(auto, unfolding(crate::specs::Numbers::numbers_fit))]
 fn fit(numbers: &[u64; COUNT]) -> bool
     ensures { result ≡ numbers_fit numbers.now }

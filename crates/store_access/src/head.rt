@@ -1,6 +1,7 @@
 // The head of a store: record 0. Its fields are read and changed only here. A head that does not lie whole within the slice
 // is not changed.
-// Kept: 0 where there is no record, as document 01 has it in the bytes; as a link it is written back as it is.
+// Kept: 0 where there is no record, as document 01 has it in the bytes; as a link it is written back as it is. A slice that may
+// be no store, with a place or a number in it, as the head's layout has them.
 ghost use Rattle.std.specs.Prelude.{◌≡◌, ◌%◌, set};
 ghost use Rattle.endian.specs.Number.{with_number};
 ghost use Rattle.record.specs.Layout.{record_of, with_record};

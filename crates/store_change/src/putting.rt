@@ -11,8 +11,8 @@ use std::num::wrapping_add_usize;
 use store_access::{head, links, stride};
 
 // The last record of the chain from record `first`.
-// Kept: a loop with a `continue` where the guess was right. In a `for`, or in a method that the loops over a chain share, the
-// compiler takes the link in place of the guess, and each record waits for it (docs/DECISIONS.md, 15).
+// Kept: a loop with a `continue` where the guess was right. A `for`, or one method for the guess, was tried: the compiler reads
+// the link in its place, and the check of an empty store takes 1,492 ns for 1,349 (docs/PERFORMANCE.md).
 fn last_from(s: &[u8; store::LENGTH], first: usize) -> usize
     ensures { result ≡ last_from record_count (records_of s.now) first }
 {

@@ -9,7 +9,8 @@ use std::num::wrapping_add_usize;
 use store_access::{head, links, stride};
 
 // The record before record `r` on the chain from record `first`, 0 if there is none.
-// Kept: a loop with a `continue` where the guess was right, as in `putting::last_from`.
+// Kept: a loop with a `continue` where the guess was right, as in `putting::last_from`; 0 where there is none, as the definition
+// of a removal has it.
 fn before_from(s: &[u8; store::LENGTH], r: usize, first: usize) -> usize
     ensures { result ≡ before_from record_count (records_of s.now) r first }
 {

@@ -1,6 +1,6 @@
 // Builds stores of a group of 3, damages each in one place, and prints which are sound, with the size of the group and
 // how many records are free. What must come is worked out from document 01, "Message store".
-// Kept: a byte is named by its record and its place in it, as the layout has it.
+// Kept: a byte is named by its record and its place in it, as the layout has it; an offset in the store is no plainer.
 #![tactic(auto)]
 
 use item::{Attempt, Incarnation, Index, Item, Tag};

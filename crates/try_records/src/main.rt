@@ -1,6 +1,6 @@
 // Writes one record of each kind and prints their bytes in hexadecimal, sixteen to a line. In a record every byte of every
 // field differs, so that a field swapped, shifted or turned shows. What must come is worked out from document 01.
-// Kept: a record is named by its number, as document 01 names it; the bytes are printed by `write!`.
+// Kept: a record is named by its number, as document 01 names it; no `impl Display`, since a slice is no type of this crate.
 #![tactic(auto)]
 
 use item::{Attempt, Incarnation, Index, Item, Tag};

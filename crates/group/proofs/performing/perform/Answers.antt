@@ -23,5 +23,5 @@ pub returns : goal.returns
 returns c =
     let a = c.args in
     acted_gives a.event a.table.now a.store.now c.read-reading.result c.in_ok-seen.seen c.read-reading.ensures c.in_ok-seen.ensures
-    c.place-k.result c.node_at-node.result c.act-result.new.node c.act-result.result c.replace_node.new.table c.act-result.new.s
-    c.place-k.ensures c.node_at-node.ensures c.act-result.ensures c.replace_node.ensures
+    c.place-k.result c.node_at-node.result c.on_sound-result.new.node c.on_sound-result.result c.replace_node.new.table c.on_sound-result.new.s
+    c.place-k.ensures c.node_at-node.ensures c.on_sound-result.ensures c.replace_node.ensures

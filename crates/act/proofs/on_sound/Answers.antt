@@ -1,8 +1,8 @@
--- `act::act` meets its contract: an arm for each event.
+-- `act::on_sound` meets its contract: an arm for each event.
 use Rattle.event.proofs.Laws.{sound_write, sound_retry, sound_crash, sound_start, sound_drop, sound_deliver, dropped_node}
 use Rattle.event.specs.Act.{Gives, Outcome}
 use mathlib.Core.Path.{sym, ap, subst, ◌∙◌}
-use Rattle.act.proofs.act.Goals as goal
+use Rattle.act.proofs.on_sound.Goals as goal
 
 pub returns-in-Write : goal.returns-in-Write
 returns-in-Write c =
