@@ -11,7 +11,8 @@ use sender_view::{Decision, NodeChange, SenderView, count_sender, own_write};
 
 // Confirmed: refused with 9, with 10 (also where the sender was not asked under this incarnation) or 11; otherwise
 // the sender is counted: at f the write has ended, and the node is Up and Idle.
-// Kept: other, attempt and item stay apart, as the fields of `Message` are document 01's.
+// Kept: the view is of the node, the incarnation of the envelope, the rest of the message, which has them as fields of its
+// own; a struct of them would be built for this one call.
 #[tactic(auto, unfolding(crate::specs::Decisions::confirmed_decision, item::specs::Counter::same_incarnation))]
 pub fn on_confirmed(
     view: SenderView,

@@ -1,7 +1,7 @@
 // The drill (document 01, Drill program): reads a script from standard input, and prints the answer of each line to
 // standard output. `drill_state` and `drill_run` say what the lines mean and print; here are the blocks.
-// Kept: `say` writes one constant text, and there is no value to print by `Display`. Piece, store and output are lent by different
-// owners, as in `drill_run`.
+// Kept: `say` writes one constant text, and there is no value to print by `Display`. Piece, store and output are lent by
+// different owners, as in `drill_run`.
 #![tactic(auto)]
 
 ghost use Rattle.std.specs.Prelude.{length};

@@ -1,5 +1,6 @@
 // A piece of a script run over lent nodes and store.
-// Kept: piece, store and output are lent by different owners; a struct of them would hold two `&mut`, and each clause name its fields.
+// Kept: piece, store and output are lent by different owners; a struct of them would hold two `&mut`, and each clause name
+// its fields.
 #![tactic(auto)]
 
 mod lines;

@@ -17,7 +17,8 @@ use script::LineBuffer;
 
 // A drill between two lines: how many nodes its group has, 0 while no group stands, and the nodes held, of which the
 // first ones are the group's table. The store is lent beside it.
-// Kept: fixed memory for the nodes, and no Option for n, since with none the first 0 nodes are the table, and each definition would say so in a case.
+// Kept: fixed memory for the nodes; no `Option` for n, since with none the first 0 nodes are the table, and each definition would
+// have a case for it.
 #[derive(Clone, Copy)]
 pub struct Drill {
     pub n: u64,

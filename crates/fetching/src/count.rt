@@ -1,5 +1,6 @@
 // Delivery of Table to one node by value: a node that is Fetching counts it.
-// Kept: sender, incarnation and rows come apart, as an envelope and the rows beside it have them.
+// Kept: sender and incarnation are of the envelope, the other incarnation of its message, the rows of the record beside it; a
+// struct of them would be built for one call.
 ghost use Rattle.std.specs.Prelude.{◌≡◌};
 ghost use Rattle.protocol.specs.Answer.{step_after};
 ghost use Rattle.protocol.specs.Fetching.{none_counted, with_table, on_table};

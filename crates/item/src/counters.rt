@@ -1,6 +1,6 @@
 // The three counters and their comparisons.
-// Kept: `at_largest` and `next` once for each counter. Of each no more than a line of the library is left, and a trait would state
-// both definitions once more for each type.
+// Kept: `at_largest` and `next` once for each counter. Of each no more than a line of the library is left, and a trait would
+// state both definitions once more for each type.
 ghost use Rattle.std.specs.Prelude.{◌≡◌};
 ghost use Rattle.item.specs.Counter.{index_at_largest, next_index, incarnation_at_largest, next_incarnation, attempt_at_largest, next_attempt, earlier};
 

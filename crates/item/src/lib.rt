@@ -40,7 +40,7 @@ pub struct Row {
     pub item: Item,
     pub incarnation: Incarnation,
     pub attempt: Attempt,
-    // Kept: a fact about the row beside its numbers; no number of it is there or not by the mark.
+    // Kept: a fact about the row; none of its numbers depends on it.
     pub marked: bool,
 }
 

@@ -41,8 +41,8 @@ pub struct Node {
     pub incarnation: Incarnation,
     pub attempt: Attempt,
     pub phase: Phase,
-    // Kept: three arrays of fixed memory by node number, since document 01 has them apart, and those counted become those asked as
-    // a whole.
+    // Kept: three arrays of fixed memory by node number, since document 01 has them apart, and those counted become those
+    // asked as a whole.
     // What each node last stored here; while Fetching, the greatest items of the tables counted.
     pub rows: [Row; Node::MAX_ROWS],
     // The peers whose answers or tables are counted in this stage, each by the incarnation under which it is counted.
@@ -83,7 +83,8 @@ pub enum Refusal {
 }
 
 // What a call answers.
-// Kept: every definition and law of a step reads its answer, refused or not; with a `Result` there each would be told anew.
+// Kept: a refusal is one of document 01's answers, printed and compared as the others are. A decision that refuses gives a
+// `Result`.
 #[derive(Clone, Copy)]
 pub enum Answer {
     Ok,

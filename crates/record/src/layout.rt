@@ -30,6 +30,7 @@ pub const INDEX_SIZE: usize = 8;
 pub const ROW_SIZE: usize = INDEX_SIZE + Tag::SIZE;
 
 // Record `i` of the bytes; none unless it lies whole within them.
+// Kept: a slice and the number of a record in it, as document 01 names records; any slice and any number may come.
 pub fn record_at(s: &[u8], i: usize) -> Option<&[u8; SIZE]>
     ensures { MatchOption result (record_of s.now i ≡ []) (λ r. (r.now ≡ record_of s.now i) × (length r.now ≡ record_size)) }
 {

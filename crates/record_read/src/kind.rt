@@ -1,5 +1,6 @@
 // The message that the fields of a record say, and whether they say one.
-// Kept: no `TryFrom<Fields>`, which may stand only in the crate of `Fields` or of `Message`; reading is this crate's (docs/HOUSE.md).
+// Kept: no `TryFrom<Fields>`, which may stand only in the crate of `Fields` or of `Message`; reading is this crate's
+// (docs/HOUSE.md).
 ghost use Rattle.std.specs.Prelude.{◌≡◌};
 ghost use Rattle.record.specs.Kind.{message_of, no_write};
 ghost use Rattle.record_read.specs.Known.{is_known};

@@ -12,7 +12,8 @@ use record::kinds::TABLE;
 use record::layout;
 
 // How many rows a record of this kind has in a group of `n`.
-// Kept: beside `record_write::rows_held`, since a byte that is read may be the kind of no message.
+// Kept: beside `record_write::rows_held`, which takes a message; a byte that is read may be the kind of none. What is alike in
+// both is `min`.
 #[tactic(auto, unfolding(crate::specs::Readable::rows_of_kind))]
 pub fn rows_of_kind(kind: u8, n: usize) -> usize
     ensures { result ≡ rows_of_kind kind n }

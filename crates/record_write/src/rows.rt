@@ -8,7 +8,7 @@ use item::Item;
 use message::Message;
 
 // How many rows a record of this message has in a group of `n`.
-// Kept: beside `record_read::rows_of_kind`, as is said there.
+// Kept: beside `record_read::rows_of_kind`, for the reason that is given there.
 #[tactic(auto, unfolding(record::specs::Kind::rows_held))]
 pub fn rows_held(message: Message, n: usize) -> usize
     ensures { result ≡ rows_held message n }

@@ -6,8 +6,7 @@ use crate::{Line, read_line};
 
 // The bytes of the present line that have come so far. A line of more than 64 bytes is no longer than 64 here; both
 // are unread, as every line of more than 43 bytes is.
-// Kept: fixed memory is a rule of the project, so the bytes stand beside their number. A type invariant of the number
-// would put a proof into each definition that makes such a value, to save the one test in `read`.
+// Kept: fixed memory is a rule of the project, so the bytes stand beside their number.
 #[derive(Clone, Copy)]
 pub struct LineBuffer {
     pub bytes: [u8; LineBuffer::MOST],

@@ -34,7 +34,7 @@ pub struct Decision {
 }
 
 // The answer "ok", with what changes and what is sent.
-// Kept: beside `node_calls::ok`, as is said there.
+// Kept: beside `node_calls::ok`, for the reason that is given there.
 pub fn ok(change: NodeChange, sends: Sends) -> Decision
     ensures { result ≡ ok_with change sends }
 {

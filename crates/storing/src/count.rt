@@ -10,7 +10,8 @@ use sender_view::{Decision, NodeChange, SenderView, count_sender, ok, own_write}
 
 // Stored: refused with 9, 10 or 11; otherwise the sender is counted: at f Confirming begins, and Confirm goes to exactly those
 // asked.
-// Kept: other, attempt and item stay apart, as the fields of `Message` are document 01's.
+// Kept: the view is of the node, the incarnation of the envelope, the rest of the message, which has them as fields of its
+// own; a struct of them would be built for this one call.
 #[tactic(auto, unfolding(crate::specs::Decisions::stored_decision))]
 pub fn on_stored(
     view: SenderView,

@@ -1,7 +1,7 @@
 // Delivery of Store, decided by the view of its sender: a node that is Up stores it and answers Stored. The incarnation is
 // the envelope's.
-// Kept: view and incarnation stay apart, since the view is of the node and the incarnation of the message; incarnation and attempt
-// too, as `Row` and `Message` have them.
+// Kept: the view is of the node, the incarnation of the envelope, attempt and item of the message; a struct of them would be
+// built for this one call. A row has incarnation and attempt as fields of its own.
 ghost use Rattle.std.specs.Prelude.{◌≡◌};
 ghost use Rattle.protocol.specs.Storing.{store_verdict};
 ghost use Rattle.storing.specs.Decisions.{store_decision};
