@@ -1,15 +1,16 @@
 -- Laws of zero bytes: the test says what it should, goes with bitwise or, and is that of the numbers in the bytes.
-use Prim.Native.Nat.{ℕ, zero, suc, ◌+◌, ◌*◌, ◌≤◌}
+use Prim.Native.Nat.{ℕ, zero, suc, ◌+◌, ◌*◌, ◌≤◌, ◌<◌}
 use mathlib.Core.Path.{◌≡◌, refl, sym, ap, ◌∙◌}
 use mathlib.Core.Bool.{Bool, true, false, ◌&&◌, and_assoc, and-true}
 use mathlib.Core.List.{List, [], ◌∷◌, ◌++◌}
 use native.Mathlib.Omega.{arith}
+use native.Mathlib.Numerals.{add-one}
 use native.Mathlib.Nat.{zero-add}
 use borrow.Author.Tests.{eqb-true, eq-eqb, ne_eqb}
 use lib.Dec.{eqb}
 use lib.Bits.{bit_and, bit_or, and_le_r, or_add_and}
-use lib.ListN.{length, take, drop, length-replicate, take-append-drop}
-use lib.Seq.{drop-drop}
+use lib.ListN.{length, take, drop, get_or, length-replicate, take-append-drop}
+use lib.Seq.{take-suc, drop-drop}
 use Rattle.endian.proofs.PartLaws.{by_order, part_is}
 use Rattle.endian.specs.Number.{value, number_at}
 use Rattle.endian.proofs.NumberLaws.{number_joined}
@@ -51,10 +52,12 @@ or_zero (suc a) b =
     let l : bit_and (suc a) b ≤ b = and_le_r (suc a) b in
     rw (ne_eqb (bit_or (suc a) b) 0 (λ e. omega arith), ne_eqb (suc a) 0 (λ e. omega arith))
 
--- one number more, as a fold joins them
-pub zero_then : (ys : List ℕ) (joined x : ℕ) → eqb joined 0 ≡ all_zero ys → eqb (bit_or joined x) 0 ≡ all_zero (ys ++ (x ∷ []))
+-- one byte more, as a loop over a slice joins them
+pub zero_more : (s : List ℕ) (i joined : ℕ) → i < length s → eqb joined 0 ≡ all_zero (take i s)
+    → eqb (bit_or joined (get_or s i 0)) 0 ≡ all_zero (take (i + 1) s)
 unfolding all_zero
-zero_then ys joined x e = or_zero joined x ∙ rw (e, all_zero_append ys (x ∷ []), and-true (eqb x 0))
+zero_more s i joined h e =
+    or_zero joined (get_or s i 0) ∙ rw (e, add-one, take-suc s i 0 h, all_zero_append (take i s) (get_or s i 0 ∷ []), and-true (eqb (get_or s i 0) 0))
 
 -- ---- numbers that are zero
 

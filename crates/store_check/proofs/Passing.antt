@@ -1,5 +1,5 @@
 -- A turn of each loop of the survey, and where it stops: what is left to do gives the answer.
-use Rattle.std.proofs.Common.{◌≡◌, ℕ, zero, suc, ◌+◌, ◌-◌, ◌<◌, Bool, true, false, cond, ◌&&◌, List, [], ◌∷◌, ◌++◌, None, Option, Some, sym, refl, ap, add-one, arith}
+use Rattle.std.proofs.Common.{◌≡◌, ℕ, zero, suc, ◌+◌, ◌-◌, ◌<◌, Bool, true, false, cond, ◌&&◌, List, [], ◌∷◌, ◌++◌, None, Option, Some, length, get_or, take, sym, refl, ap, add-one, arith, take-suc}
 use mathlib.Core.Bool.{and_assoc, and-true}
 use Rattle.item.specs.Maxima.{valid_size}
 use Rattle.store.specs.declared.Walked.{Walked}
@@ -36,10 +36,10 @@ unfolding all_passed
 all_passed_append [] b = refl
 all_passed_append (x ∷ a) b = rw (all_passed_append a b) (sym (and_assoc x (all_passed a) (all_passed b)))
 
--- one record more, as a fold joins them
-pub passed_then : (ps : List Bool) (all p : Bool) → all ≡ all_passed ps → all && p ≡ all_passed (ps ++ (p ∷ []))
+-- one record more, as a loop joins them
+pub passed_more : (ps : List Bool) (i : ℕ) (all : Bool) → i < length ps → all ≡ all_passed (take i ps) → all && get_or ps i false ≡ all_passed (take (i + 1) ps)
 unfolding all_passed
-passed_then ps all p e = rw (e, all_passed_append ps (p ∷ []), and-true p)
+passed_more ps i all h e = rw (e, add-one, take-suc ps i false h, all_passed_append (take i ps) (get_or ps i false ∷ []), and-true (get_or ps i false))
 
 -- ---- the free chain
 
