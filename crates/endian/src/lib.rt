@@ -4,4 +4,4 @@
 mod number;
 pub mod zeros;
 
-pub use number::{Number, read, write};
+pub use number::{Number, lies_within, read, write};
