@@ -30,10 +30,10 @@ pub struct SenderView {
 }
 
 // How many are counted with the sender.
-fn count_with(mut peers: [Option<Incarnation>; Node::MAX_ROWS], sender: usize) -> usize
+fn count_with(mut peers: [Option<Incarnation>; item::MAX_NODES], sender: usize) -> usize
     ensures { result ≡ count_peers (set peers sender some_peer) }
 {
-    if sender < Node::MAX_ROWS {
+    if sender < item::MAX_NODES {
         peers[sender] = Some(Incarnation(0));
     }
     count_peers(&peers)
