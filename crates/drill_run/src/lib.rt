@@ -20,7 +20,7 @@ pub const STORE_ROOM: usize = store::LENGTH + 8;
 
 // How far the piece was taken, and where the drill stands then.
 #[tactic(auto, unfolding(crate::specs::Feeds::fed_from))]
-fn fed(position: Position, nodes: [Node; Node::MAX_NODES]) -> Fed
+fn fed(position: Position, nodes: [Node; item::MAX_NODES]) -> Fed
     ensures { result ≡ fed_from position nodes }
 {
     Fed {
@@ -41,7 +41,7 @@ fn fed(position: Position, nodes: [Node; Node::MAX_NODES]) -> Fed
 fn lend_nodes(
     piece: &[u8],
     first: Position,
-    nodes: [Node; Node::MAX_NODES],
+    nodes: [Node; item::MAX_NODES],
     store: &mut [u8],
     out: &mut [u8],
 ) -> Fed

@@ -22,7 +22,7 @@ use script::LineBuffer;
 #[derive(Clone, Copy)]
 pub struct Drill {
     pub n: u64,
-    pub nodes: [Node; Node::MAX_NODES],
+    pub nodes: [Node; item::MAX_NODES],
 }
 
 // What a line prints after its count, its answer or that it is unread, and the drill afterwards.
@@ -41,7 +41,7 @@ impl Drill {
         let node = Node::blank(0, 0, Incarnation(0));
         Drill {
             n: 0,
-            nodes: [node; Node::MAX_NODES],
+            nodes: [node; item::MAX_NODES],
         }
     }
 }

@@ -63,7 +63,7 @@ pub fn decide(
 pub fn deliver(
     node: Node,
     envelope: Envelope,
-    items: [Item; Node::MAX_ROWS],
+    items: [Item; item::MAX_NODES],
 ) -> Result<Step, Refusal>
     ensures { step_after node result ≡ deliver_step node envelope items }
 {

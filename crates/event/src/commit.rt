@@ -22,9 +22,8 @@ pub fn carry_out(
     if let Answer::Refused(why) = step.answer {
         return Err(why);
     }
-    let next = step.node;
     let sending = Sending {
-        node: &next,
+        node: &step.node,
         sends: step.sends,
         back,
     };
@@ -32,7 +31,7 @@ pub fn carry_out(
         return Err(Refusal::NoRoom);
     }
     sending.put_into(s);
-    *node = next;
+    *node = step.node;
     Ok(step.answer)
 }
 

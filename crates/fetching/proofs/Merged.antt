@@ -1,45 +1,40 @@
--- The rows of which the first i are merged with a table's items: one turn of the loop makes it one more, and after as
--- many turns as there are rows it is the merge of all.
+-- An array made by calls at 0, 1 and so on of a closure that stays as it is has at each place what the closure gives there;
+-- and rows that are each merged with the table's item are the merge of all.
 use Prim.Native.Nat.{ℕ, zero, suc, ◌+◌, ◌<◌}
-use mathlib.Core.Path.{◌≡◌, refl, ap}
+use mathlib.Core.Path.{◌≡◌, refl, subst, ◌∙◌}
 use mathlib.Core.Bool.{Bool}
 use mathlib.Core.List.{List, [], ◌∷◌}
-use lib.ListN.{length, get_or, set}
-use native.Mathlib.Numerals.{add-one}
+use lib.ListN.{length, get_or}
 use native.Mathlib.Omega.{arith}
+use denote.Param.Members.{Mut, Called}
+use Rattle.std.specs.Array.{IsFromFnResult, IsFromFnResultFrom}
+use Rattle.item.specs.Item.{zero_item}
+use Rattle.item.specs.Row.{zero_row}
 use Rattle.item.specs.declared.Item.{Item}
 use Rattle.item.specs.declared.Row.{Row}
 use Rattle.protocol.specs.Merge.{merge_row, merge_rows}
 
-unfoldable pub merged_to : Bool → ℕ → List Row → List Item → List Row
-merged_to first zero rows items = rows
-merged_to first (suc i) [] items = []
-merged_to first (suc i) (row ∷ rows) [] = row ∷ rows
-merged_to first (suc i) (row ∷ rows) (item ∷ items) = merge_row first row item ∷ merged_to first i rows items
+module _ {F B : Type 0} {g : Mut F (ℕ × Unit {0}) B} {f : F} (value : ℕ → B)
+    (gives : (i : ℕ) (y : B) (f' : F) → Called g f (i, tt) y f' → (y ≡ value i) × (f' ≡ f)) where
+  made_from : (ys : List B) (i n k j : ℕ) (d : B) → IsFromFnResultFrom g f ys i n → k < n → i + k ≡ j → get_or ys j d ≡ value j
+  made_from ys i zero k j d made h e = absurd (omega arith)
+  made_from ys i (suc n) zero j d (f', y, here, call, made) h e =
+      let at : i ≡ j = omega arith in
+      subst (λ (k : ℕ). get_or ys k d ≡ value k) at (here.1 d ∙ (gives i y f' call).0)
+  made_from ys i (suc n) (suc k) j d (f', y, here, call, made) h e =
+      let rest = subst (λ (p : F). IsFromFnResultFrom g p ys (i + 1) n) (gives i y f' call).1 made in
+      made_from ys (i + 1) n k j d rest (omega arith) (omega arith)
 
-turn : (first : Bool) (i : ℕ) (rows : List Row) (items : List Item) (row₀ : Row) (item₀ : Item)
-    → i < length rows → i < length items
-    → set (merged_to first i rows items) i (merge_row first (get_or (merged_to first i rows items) i row₀) (get_or items i item₀))
-    ≡ merged_to first (suc i) rows items
-unfolding merged_to
-turn first i [] items row₀ item₀ h k = absurd (omega arith)
-turn first i (row ∷ rows) [] row₀ item₀ h k = absurd (omega arith)
-turn first zero (row ∷ rows) (item ∷ items) row₀ item₀ h k = refl
-turn first (suc i) (row ∷ rows) (item ∷ items) row₀ item₀ h k =
-    ap (λ (l : List Row). merge_row first row item ∷ l) (turn first i rows items row₀ item₀ (omega arith) (omega arith))
+  pub made_at : (ys : List B) (n k : ℕ) (d : B) → IsFromFnResult g f ys n → k < n → get_or ys k d ≡ value k
+  made_at ys n k d made h = made_from ys 0 n k k d made.each h (omega arith)
 
-pub merged_turn : (first : Bool) (i : ℕ) (rows : List Row) (items : List Item) (row₀ : Row) (item₀ : Item)
-    → i < length rows → i < length items
-    → set (merged_to first i rows items) i (merge_row first (get_or (merged_to first i rows items) i row₀) (get_or items i item₀))
-    ≡ merged_to first (i + 1) rows items
-merged_turn first i rows items row₀ item₀ h k = rw add-one (turn first i rows items row₀ item₀ h k)
-
-pub merged_all : (first : Bool) (n : ℕ) (rows : List Row) (items : List Item) → length rows ≡ n → length items ≡ n
-    → merged_to first n rows items ≡ merge_rows first rows items
-unfolding merged_to merge_rows
-merged_all first zero [] items h k = refl
-merged_all first zero (row ∷ rows) items h k = absurd (omega arith)
-merged_all first (suc n) [] items h k = refl
-merged_all first (suc n) (row ∷ rows) [] h k = refl
-merged_all first (suc n) (row ∷ rows) (item ∷ items) h k =
-    ap (λ (l : List Row). merge_row first row item ∷ l) (merged_all first n rows items (omega arith) (omega arith))
+pub merged : (first : Bool) (rows : List Row) (items : List Item) (new : List Row) → length rows ≡ length new → length items ≡ length new
+    → ((k : ℕ) → k < length new → get_or new k zero_row ≡ merge_row first (get_or rows k zero_row) (get_or items k zero_item))
+    → new ≡ merge_rows first rows items
+unfolding merge_rows
+merged first [] items [] h k e = refl
+merged first [] items (n ∷ new) h k e = absurd (omega arith)
+merged first (row ∷ rows) items [] h k e = absurd (omega arith)
+merged first (row ∷ rows) [] (n ∷ new) h k e = absurd (omega arith)
+merged first (row ∷ rows) (item ∷ items) (n ∷ new) h k e =
+    λ j. e 0 (omega arith) j ∷ merged first rows items new (omega arith) (omega arith) (λ k h. e (suc k) (omega arith)) j

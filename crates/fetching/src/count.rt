@@ -19,7 +19,7 @@ pub fn on_table(
     sender: usize,
     incarnation: Incarnation,
     other: Incarnation,
-    items: [Item; Node::MAX_ROWS],
+    items: [Item; item::MAX_NODES],
 ) -> Result<Step, Refusal>
     ensures { step_after node result ≡ on_table node sender incarnation other items }
 {
@@ -42,7 +42,7 @@ fn with_table(
     node: Node,
     sender: usize,
     incarnation: Incarnation,
-    items: [Item; Node::MAX_ROWS],
+    items: [Item; item::MAX_NODES],
 ) -> Node
     ensures { result ≡ with_table node sender incarnation items }
 {

@@ -3,7 +3,7 @@ ghost use Rattle.std.specs.Prelude.{◌≡◌};
 ghost use Rattle.protocol.specs.Merge.{merge_row, merge_rows, lowest_marked};
 
 use item::{Item, Row};
-use protocol::Node;
+use std::array;
 
 // A row after one more table with this item for it. The first table's item is taken whatever the row is; later a
 // greater index is taken, unmarked, a lower one changes nothing, and an equal one with another tag marks the row.
@@ -27,23 +27,19 @@ pub fn merge_row(first: bool, row: Row, item: Item) -> Row
 }
 
 // Every row after one more table, whose items are in the order of the rows.
-#[tactic(auto, unfolding(crate::proofs::Merged::merged_to))]
 pub fn merge_rows(
     first: bool,
-    mut rows: [Row; Node::MAX_ROWS],
-    items: &[Item; Node::MAX_ROWS],
-) -> [Row; Node::MAX_ROWS]
+    rows: [Row; item::MAX_NODES],
+    items: &[Item; item::MAX_NODES],
+) -> [Row; item::MAX_NODES]
     ensures { result ≡ merge_rows first rows items.now }
 {
-    for (i, item) in items.iter().enumerate() {
-        rows[i] = merge_row(first, rows[i], *item);
-    }
-    rows
+    array::from_fn(|i| merge_row(first, rows[i], items[i]))
 }
 
 // The number of the lowest marked row, if one is marked.
 #[tactic(auto, unfolding(protocol::specs::Merge::lowest_marked))]
-pub fn lowest_marked(rows: &[Row; Node::MAX_ROWS]) -> Option<usize>
+pub fn lowest_marked(rows: &[Row; item::MAX_NODES]) -> Option<usize>
     ensures { result ≡ lowest_marked rows.now }
 {
     rows.iter().position(|row| row.marked)

@@ -17,7 +17,7 @@ pub fn half(n: usize) -> usize
 
 // The incarnation under which this peer is counted, or asked, if it is; past the last, none.
 #[tactic(auto, unfolding(protocol::specs::Node::peer_of))]
-pub fn peer_of(peers: &[Option<Incarnation>; Node::MAX_ROWS], number: usize) -> Option<Incarnation>
+pub fn peer_of(peers: &[Option<Incarnation>; item::MAX_NODES], number: usize) -> Option<Incarnation>
     ensures { result ≡ peer_of peers.now number }
 {
     peers.get(number).copied().flatten()
@@ -25,7 +25,7 @@ pub fn peer_of(peers: &[Option<Incarnation>; Node::MAX_ROWS], number: usize) -> 
 
 // How many peers are counted, or asked.
 #[tactic(auto, unfolding(protocol::specs::Node::count_peers))]
-pub fn count_peers(peers: &[Option<Incarnation>; Node::MAX_ROWS]) -> usize
+pub fn count_peers(peers: &[Option<Incarnation>; item::MAX_NODES]) -> usize
     ensures { result ≡ count_peers peers.now }
 {
     peers.iter().filter(|peer| peer.is_some()).count()

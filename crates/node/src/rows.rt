@@ -11,7 +11,7 @@ use protocol::Node;
 pub fn with_row(mut node: Node, i: usize, row: Row) -> Node
     ensures { result ≡ with_row node i row }
 {
-    if i < Node::MAX_ROWS {
+    if i < item::MAX_NODES {
         node.rows[i] = row;
     }
     node
@@ -22,7 +22,7 @@ pub fn with_row(mut node: Node, i: usize, row: Row) -> Node
 pub fn with_counted(mut node: Node, sender: usize, incarnation: Incarnation) -> Node
     ensures { result ≡ with_counted node sender incarnation }
 {
-    if sender < Node::MAX_ROWS {
+    if sender < item::MAX_NODES {
         node.counted[sender] = Some(incarnation);
     }
     node
@@ -30,7 +30,7 @@ pub fn with_counted(mut node: Node, sender: usize, incarnation: Incarnation) -> 
 
 // Every row is replaced.
 #[tactic(auto, unfolding(protocol::specs::Node::with_rows))]
-pub fn with_rows(node: Node, rows: [Row; Node::MAX_ROWS]) -> Node
+pub fn with_rows(node: Node, rows: [Row; item::MAX_NODES]) -> Node
     ensures { result ≡ with_rows node rows }
 {
     Node { rows, ..node }

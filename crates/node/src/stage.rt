@@ -20,8 +20,8 @@ pub fn storing_begun(node: Node, phase: Phase, attempt: Attempt, item: Item) -> 
     Node {
         attempt,
         phase,
-        counted: [None; Node::MAX_ROWS],
-        asked: [None; Node::MAX_ROWS],
+        counted: [None; item::MAX_NODES],
+        asked: [None; item::MAX_NODES],
         ..with_row(node, node.number, row)
     }
 }
@@ -34,7 +34,7 @@ pub fn confirming_begun(node: Node, phase: Phase) -> Node
     let asked = node.counted;
     Node {
         phase,
-        counted: [None; Node::MAX_ROWS],
+        counted: [None; item::MAX_NODES],
         asked,
         ..node
     }
@@ -47,8 +47,8 @@ pub fn write_ended(node: Node) -> Node
 {
     Node {
         phase: Phase::Up(Stage::Idle),
-        counted: [None; Node::MAX_ROWS],
-        asked: [None; Node::MAX_ROWS],
+        counted: [None; item::MAX_NODES],
+        asked: [None; item::MAX_NODES],
         ..node
     }
 }

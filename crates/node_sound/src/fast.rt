@@ -17,14 +17,14 @@ pub fn is_at_rest(node: &Node) -> bool
 
 // Whether no row is marked.
 #[tactic(auto, using(crate::proofs::Every::joined_tests))]
-fn no_marks(rows: &[Row; Node::MAX_ROWS]) -> bool
+fn no_marks(rows: &[Row; item::MAX_NODES]) -> bool
     ensures { result ≡ list_all unmarked rows.now }
 {
     rows.iter().fold(true, |all, row| all & !row.marked)
 }
 
 // Whether nobody is among these peers.
-fn no_peers(peers: &[Option<Incarnation>; Node::MAX_ROWS]) -> bool
+fn no_peers(peers: &[Option<Incarnation>; item::MAX_NODES]) -> bool
     ensures { result ≡ list_all absent peers.now }
 {
     peers.iter().fold(true, |all, peer| all & is_absent(peer))
@@ -40,10 +40,10 @@ fn is_absent(peer: &Option<Incarnation>) -> bool
 
 // Whether the numbers in every row from n on are zero. Marks are not looked at: a node at rest has none.
 #[tactic(auto, unfolding(crate::specs::Rest::unused_zero))]
-pub fn unused_zero(n: usize, rows: &[Row; Node::MAX_ROWS]) -> bool
+pub fn unused_zero(n: usize, rows: &[Row; item::MAX_NODES]) -> bool
     ensures { result ≡ unused_zero n rows.now }
 {
-    if Node::MAX_ROWS <= n {
+    if item::MAX_NODES <= n {
         return true;
     }
     numbers_zero(&rows[n..])

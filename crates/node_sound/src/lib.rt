@@ -58,7 +58,7 @@ fn attempt_fits(phase: Phase, attempt: Attempt) -> bool
 
 // Whether each of the peers may be counted or asked.
 #[tactic(auto, unfolding(protocol::specs::Sound::peers_sound))]
-fn peers_sound(number: usize, n: usize, peers: &[Option<Incarnation>; Node::MAX_ROWS]) -> bool
+fn peers_sound(number: usize, n: usize, peers: &[Option<Incarnation>; item::MAX_NODES]) -> bool
     ensures { result ≡ peers_sound number n peers.now }
 {
     peers
@@ -106,8 +106,8 @@ fn stage_counts(stage: Stage, f: usize, counted: usize, asked: usize) -> bool
 #[tactic(auto, unfolding(protocol::specs::Sound::counted_asked))]
 fn counted_asked(
     phase: Phase,
-    counted: &[Option<Incarnation>; Node::MAX_ROWS],
-    asked: &[Option<Incarnation>; Node::MAX_ROWS],
+    counted: &[Option<Incarnation>; item::MAX_NODES],
+    asked: &[Option<Incarnation>; item::MAX_NODES],
 ) -> bool
     ensures { result ≡ counted_asked phase counted.now asked.now }
 {
@@ -123,7 +123,7 @@ fn counted_asked(
 // Whether peer k is asked, if it is counted.
 #[tactic(auto, unfolding(protocol::specs::Sound::among_asked))]
 fn among_asked(
-    asked: &[Option<Incarnation>; Node::MAX_ROWS],
+    asked: &[Option<Incarnation>; item::MAX_NODES],
     k: usize,
     peer: Option<Incarnation>,
 ) -> bool

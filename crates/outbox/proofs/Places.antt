@@ -1,35 +1,24 @@
--- A turn of each loop over the node numbers, and its end.
+-- The places that are left from a number on, how many of them are sent, and an array made by a closure from another.
 use Prim.Native.Nat.{ℕ, zero, suc, ◌+◌, ◌-◌, ◌≤◌, ◌<◌}
-use mathlib.Core.Path.{◌≡◌, refl, sym, ap, ◌∙◌}
-use mathlib.Core.Bool.{Bool, true, false}
-use mathlib.Core.List.{List, [], ◌∷◌, ◌++◌, map}
-use mir.Val.{bool_byte}
+use mathlib.Core.Path.{◌≡◌, refl, sym, ap, subst, ◌∙◌}
+use mathlib.Core.Bool.{cond}
+use mathlib.Core.List.{List, [], ◌∷◌, map}
 use native.Mathlib.Omega.{arith}
 use native.Mathlib.Numerals.{add-one}
-use lib.ListN.{length, take, get_or, set, length-map}
-use lib.Seq.{take-suc-set, take_all}
+use lib.ListN.{length, get_or}
+use denote.Param.Members.{Mut, Called}
+use Rattle.std.specs.Array.{IsMapOf, MapsFrom}
+use Rattle.std.specs.List.{count_by, range_with_len}
+use Rattle.std.specs.Prelude.{Option, is_some}
+use Rattle.std.proofs.lemmas.List.Sums.{sum_by-cons}
 use Rattle.item.specs.Maxima.{max_nodes}
-use Rattle.item.specs.Row.{zero_row}
-use Rattle.item.specs.declared.Item.{Item}
-use Rattle.item.specs.declared.Row.{Row}
 use Rattle.message.specs.declared.Envelope.{Envelope}
-use Rattle.message.proofs.Counted.{count_none, count_some}
-use Rattle.std.specs.Prelude.{None, Option, Some, is_some}
 use Rattle.protocol.specs.Outgoing.{outgoing_to, outgoing_from}
-use Rattle.store.specs.Change.{count_outgoing}
 use Rattle.protocol.specs.declared.Node.{Node}
 use Rattle.protocol.specs.declared.Sends.{Sends}
+use Rattle.store.specs.Change.{count_outgoing}
 
 -- ---- the numbers from k on
-
-pub at_most_one : (b : Bool) → bool_byte b ≤ 1
-at_most_one true = omega arith
-at_most_one false = omega arith
-
-count_one : (o : Option Envelope) (os : List (Option Envelope)) → count_outgoing (o ∷ os) ≡ bool_byte (is_some o) + count_outgoing os
-unfolding count_outgoing
-count_one None os = omega (arith, count_none os)
-count_one (Some e) os = omega (arith, count_some e os)
 
 abbrev pub outgoing_left : Node → Sends → ℕ → ℕ → List (Option Envelope)
 outgoing_left node sends back k = outgoing_from node sends back k (max_nodes - k)
@@ -48,30 +37,40 @@ module _ (node : Node) (sends : Sends) (back k : ℕ) where
       let e : max_nodes - k ≡ 0 = omega arith in
       ap (outgoing_from node sends back k) e
 
-  pub count_turn : k < max_nodes
-      → count_outgoing (outgoing_left node sends back k) ≡ bool_byte (is_some (outgoing_to node sends back k)) + count_outgoing (outgoing_left node sends back (k + 1))
-  count_turn h = ap count_outgoing (left_cons h) ∙ count_one (outgoing_to node sends back k) (outgoing_left node sends back (k + 1))
+-- ---- how many are sent
 
-  pub count_end : max_nodes ≤ k → count_outgoing (outgoing_left node sends back k) ≡ 0
-  unfolding count_outgoing
-  count_end h = ap count_outgoing (left_none h)
+pub count_places : (node : Node) (sends : Sends) (back k n : ℕ)
+    → count_by (λ (j : ℕ). is_some (outgoing_to node sends back j)) (range_with_len k n) ≡ count_outgoing (outgoing_from node sends back k n)
+unfolding count_outgoing outgoing_from
+count_places node sends back k zero = refl
+count_places node sends back k (suc n) =
+    let sent = λ (j : ℕ). is_some (outgoing_to node sends back j) in
+    let rest = ap (λ (j : ℕ). count_by sent (range_with_len j n)) (add-one k) ∙ count_places node sends back (suc k) n in
+    sum_by-cons (λ (j : ℕ). cond (sent j) 1 0) k (range_with_len (k + 1) n)
+    ∙ ap (λ (c : ℕ). cond (sent k) 1 0 + c) rest
+    ∙ sym (sum_by-cons (λ (o : Option Envelope). cond (is_some o) 1 0) (outgoing_to node sends back k) (outgoing_from node sends back (suc k) n))
 
--- ---- one item more
+-- ---- an array made from another by a closure that stays as it is
 
-map_suc : {A B : Type 0} (f : A → B) (xs : List A) (k : ℕ) (d : A) → k < length xs → take (suc k) (map f xs) ≡ take k (map f xs) ++ f (get_or xs k d) ∷ []
-map_suc f [] k d h = absurd (omega arith)
-map_suc f (x ∷ xs) zero d h = refl
-map_suc f (x ∷ xs) (suc k) d h = ap (λ (l : List _). f x ∷ l) (map_suc f xs k d (omega arith))
+module _ {F A B : Type 0} {g : Mut F (A × Unit {0}) B} {f : F} (value : A → B)
+    (gives : (x : A) (y : B) (f' : F) → Called g f (x, tt) y f' → (y ≡ value x) × (f' ≡ f)) where
+  maps_from : (xs : List A) (ys : List B) (i n k j : ℕ) (d : A) (e : B) → MapsFrom g f xs ys i n → k < n → i + k ≡ j → get_or ys j e ≡ value (get_or xs j d)
+  maps_from xs ys i zero k j d e made h at = absurd (omega arith)
+  maps_from xs ys i (suc n) zero j d e (f', x, y, from, here, call, made) h at =
+      let here_is : i ≡ j = omega arith in
+      subst (λ (k : ℕ). get_or ys k e ≡ value (get_or xs k d)) here_is (here.1 e ∙ (gives x y f' call).0 ∙ ap value (sym (from.1 d)))
+  maps_from xs ys i (suc n) (suc k) j d e (f', x, y, from, here, call, made) h at =
+      let rest = subst (λ (p : F). MapsFrom g p xs ys (i + 1) n) (gives x y f' call).1 made in
+      maps_from xs ys (i + 1) n k j d e rest (omega arith) (omega arith)
 
-pub items_turn : (rows : List Row) (items : List Item) (k : ℕ) → k < length items → k < length rows
-    → take k items ≡ take k (map (λ (row : Row). row.item) rows)
-    → take (k + 1) (set items k (get_or rows k zero_row).item) ≡ take (k + 1) (map (λ (row : Row). row.item) rows)
-items_turn rows items k h hr e =
-    rw (add-one k, take-suc-set items k (get_or rows k zero_row).item h, e)
-    (sym (map_suc (λ (row : Row). row.item) rows k zero_row hr))
+same_map : {A B : Type 0} (value : A → B) (xs : List A) (ys : List B) (d : A) (e : B) → length xs ≡ length ys
+    → ((k : ℕ) → k < length ys → get_or ys k e ≡ value (get_or xs k d)) → ys ≡ map value xs
+same_map value [] [] d e h at = refl
+same_map value [] (y ∷ ys) d e h at = absurd (omega arith)
+same_map value (x ∷ xs) [] d e h at = absurd (omega arith)
+same_map value (x ∷ xs) (y ∷ ys) d e h at = λ j. at 0 (omega arith) j ∷ same_map value xs ys d e (omega arith) (λ k h. at (suc k) (omega arith)) j
 
-pub items_end : (rows : List Row) (items : List Item) (k : ℕ) → length items ≤ k → length rows ≤ k → take k items ≡ take k (map (λ (row : Row). row.item) rows)
-    → items ≡ map (λ (row : Row). row.item) rows
-items_end rows items k h hr e =
-    let l : length (map (λ (row : Row). row.item) rows) ≤ k = omega (arith, length-map rows (λ (row : Row). row.item)) in
-    sym (take_all k items h) ∙ e ∙ take_all k (map (λ (row : Row). row.item) rows) l
+pub is_map : {F A B : Type 0} {g : Mut F (A × Unit {0}) B} {f : F} (value : A → B) (xs : List A) (ys : List B) (n : ℕ) (d : A) (e : B)
+    → ((x : A) (y : B) (f' : F) → Called g f (x, tt) y f' → (y ≡ value x) × (f' ≡ f)) → IsMapOf g f xs ys n → length xs ≡ n → ys ≡ map value xs
+is_map value xs ys n d e gives made h =
+    same_map value xs ys d e (omega (arith, made.long)) (λ k l. maps_from value gives xs ys 0 n k k d e made.each (omega (arith, made.long)) (omega arith))

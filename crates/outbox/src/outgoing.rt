@@ -71,24 +71,17 @@ impl Sending<'_> {
     pub fn count(&self) -> usize
         ensures { result ≡ count_outgoing (outgoing self.now.node.now self.now.sends self.now.back) }
     {
-        let mut count = 0;
-        for k in 0..item::MAX_NODES {
-            count += usize::from(self.to(k).is_some());
-        }
-        count
+        (0..item::MAX_NODES)
+            .filter(|k| self.to(*k).is_some())
+            .count()
     }
 }
 
 // The items of rows.
-// Kept: a loop, since of `rows.map(|row| row.item)` no proof closed (tried from `map`'s clause, item by item).
 fn items_of(rows: &[Row; item::MAX_NODES]) -> [Item; item::MAX_NODES]
     ensures { result ≡ map (λ (row : Row). row.item) rows.now }
 {
-    let mut items = [Item::zero(); item::MAX_NODES];
-    for (i, row) in rows.iter().enumerate() {
-        items[i] = row.item;
-    }
-    items
+    rows.map(|row| row.item)
 }
 
 // The items of the node's rows.

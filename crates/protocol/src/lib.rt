@@ -44,11 +44,11 @@ pub struct Node {
     // Kept: three arrays of fixed memory by node number, since document 01 has them apart, and those counted become those
     // asked as a whole.
     // What each node last stored here; while Fetching, the greatest items of the tables counted.
-    pub rows: [Row; Node::MAX_ROWS],
+    pub rows: [Row; item::MAX_NODES],
     // The peers whose answers or tables are counted in this stage, each by the incarnation under which it is counted.
-    pub counted: [Option<Incarnation>; Node::MAX_ROWS],
+    pub counted: [Option<Incarnation>; item::MAX_NODES],
     // While Confirming, the f peers asked, each by the incarnation under which it answered Stored.
-    pub asked: [Option<Incarnation>; Node::MAX_ROWS],
+    pub asked: [Option<Incarnation>; item::MAX_NODES],
 }
 
 // Why a call is refused, by document 01's number (`refusal_number` in specs/).
@@ -137,11 +137,6 @@ pub enum Event {
 }
 
 impl Node {
-    // The most nodes that a group may have.
-    pub const MAX_NODES: usize = item::MAX_NODES;
-    // The rows that a node keeps, one for each node number.
-    pub const MAX_ROWS: usize = Node::MAX_NODES;
-
     // The blank node, Down: only number, n and incarnation remain.
     #[tactic(auto, unfolding(crate::specs::Node::blank_node))]
     pub fn blank(number: usize, n: usize, incarnation: Incarnation) -> Node
@@ -153,9 +148,9 @@ impl Node {
             incarnation,
             attempt: Attempt(0),
             phase: Phase::Down,
-            rows: [Row::zero(); Node::MAX_ROWS],
-            counted: [None; Node::MAX_ROWS],
-            asked: [None; Node::MAX_ROWS],
+            rows: [Row::zero(); item::MAX_NODES],
+            counted: [None; item::MAX_NODES],
+            asked: [None; item::MAX_NODES],
         }
     }
 }

@@ -1,5 +1,5 @@
 -- Laws of the numbers of a record: which fit, and one row more.
-use Prim.Native.Nat.{ℕ, zero, suc, ◌+◌, ◌-◌, ◌*◌, ◌≤◌, ◌<◌}
+use Prim.Native.Nat.{ℕ, zero, suc, ◌+◌, ◌-◌, ◌*◌, ◌^◌, ◌≤◌, ◌<◌}
 use native.Mathlib.Omega.{arith}
 use native.Mathlib.Numerals.{add-one}
 use native.Mathlib.Nat.{not-suc-le-zero, le_of_suc-le-suc}
@@ -35,13 +35,13 @@ use Rattle.message.specs.declared.Message.{Message}
 
 pub record Fit (ns : List ℕ) : Type 0 where
   pub long : length ns ≡ number_count
-  pub next : get_or ns 0 0 < 65536
-  pub kind : get_or ns 1 0 < 256
-  pub sender : get_or ns 2 0 < 16
-  pub addressee : get_or ns 3 0 < 16
-  pub incarnation : get_or ns 4 0 < 4294967296
-  pub other : get_or ns 5 0 < 4294967296
-  pub attempt : get_or ns 6 0 < 4294967296
+  pub next : get_or ns 0 0 < 2 ^ 16
+  pub kind : get_or ns 1 0 < 2 ^ 8
+  pub sender : get_or ns 2 0 < 2 ^ 4
+  pub addressee : get_or ns 3 0 < 2 ^ 4
+  pub incarnation : get_or ns 4 0 < 2 ^ 32
+  pub other : get_or ns 5 0 < 2 ^ 32
+  pub attempt : get_or ns 6 0 < 2 ^ 32
 
 pub fit_is : (ns : List ℕ) → numbers_fit ns ≡ true → Fit ns
 unfolding numbers_fit

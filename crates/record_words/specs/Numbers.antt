@@ -64,7 +64,7 @@ rows_from ns = items_from max_nodes ns rows_first
 -- incarnations and the attempt 32. Index and tag take every number of 64 bits.
 unfoldable pub numbers_fit : List ℕ → Bool
 numbers_fit ns =
-    eqb (length ns) number_count && (ltb (get_or ns 0 0) (2 ^ 16) && (ltb (get_or ns 1 0) (2 ^ 8) && (ltb (get_or ns 2 0) 16 && (ltb (get_or ns 3 0) 16 &&
+    eqb (length ns) number_count && (ltb (get_or ns 0 0) (2 ^ 16) && (ltb (get_or ns 1 0) (2 ^ 8) && (ltb (get_or ns 2 0) (2 ^ 4) && (ltb (get_or ns 3 0) (2 ^ 4) &&
     (ltb (get_or ns 4 0) (2 ^ 32) && (ltb (get_or ns 5 0) (2 ^ 32) && ltb (get_or ns 6 0) (2 ^ 32)))))))
 
 -- next and the message that fitting numbers say in a group of n, if every number after its rows is 0: nothing handed in is

@@ -7,19 +7,22 @@ use crate::words::{COUNT, ROWS_FIRST};
 use item::{Attempt, Incarnation, Index, Item, Tag};
 use record::kinds::Fields;
 
+// How many numbers half a byte can say: a record has sender and addressee in one byte.
+const HALF_BYTE: u64 = 16;
+
 // Whether each number fits its field.
-// Kept: one list of limits, which is plainer than seven `try_from`; two of the limits are no width of a type.
+// Kept: a list of limits by name. `try_from` would serve five of the seven, and the two half bytes would need a test of another form.
 #[tactic(auto, unfolding(crate::specs::Numbers::numbers_fit))]
 fn fit(numbers: &[u64; COUNT]) -> bool
     ensures { result ≡ numbers_fit numbers.now }
 {
-    numbers[0] < 65536
-        && numbers[1] < 256
-        && numbers[2] < 16
-        && numbers[3] < 16
-        && numbers[4] < 4294967296
-        && numbers[5] < 4294967296
-        && numbers[6] < 4294967296
+    numbers[0] <= u64::from(u16::MAX)
+        && numbers[1] <= u64::from(u8::MAX)
+        && numbers[2] < HALF_BYTE
+        && numbers[3] < HALF_BYTE
+        && numbers[4] <= u64::from(Incarnation::LARGEST)
+        && numbers[5] <= u64::from(Incarnation::LARGEST)
+        && numbers[6] <= u64::from(Attempt::LARGEST)
 }
 
 // The fields that numbers say, where they fit.

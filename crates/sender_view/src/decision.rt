@@ -68,9 +68,8 @@ pub fn count_sender(
 fn confirming(node: Node, sender: usize, incarnation: Incarnation) -> Node
     ensures { result ≡ confirming_begun (with_counted node sender incarnation) (at_stage node.phase stage.Confirming) }
 {
-    let phase = node.phase;
     let next = with_counted(node, sender, incarnation);
-    confirming_begun(next, at_stage(phase, Stage::Confirming))
+    confirming_begun(next, at_stage(node.phase, Stage::Confirming))
 }
 
 // The node with what changes of it.

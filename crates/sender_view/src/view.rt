@@ -30,14 +30,13 @@ pub struct SenderView {
 }
 
 // How many are counted with the sender.
-fn count_with(peers: [Option<Incarnation>; Node::MAX_ROWS], sender: usize) -> usize
+fn count_with(mut peers: [Option<Incarnation>; item::MAX_NODES], sender: usize) -> usize
     ensures { result ≡ count_peers (set peers sender some_peer) }
 {
-    let mut counted = peers;
-    if sender < Node::MAX_ROWS {
-        counted[sender] = Some(Incarnation(0));
+    if sender < item::MAX_NODES {
+        peers[sender] = Some(Incarnation(0));
     }
-    count_peers(&counted)
+    count_peers(&peers)
 }
 
 // What the node is to this sender.

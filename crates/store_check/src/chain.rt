@@ -20,13 +20,7 @@ fn message_to(r: &[u8; record::SIZE], n: usize, owner: usize) -> bool
     let Some(ends) = endpoints::read(r, n) else {
         return false;
     };
-    if n <= ends.sender {
-        return false;
-    }
-    if ends.sender == ends.addressee {
-        return false;
-    }
-    ends.addressee == owner
+    ends.sender < n && ends.sender != ends.addressee && ends.addressee == owner
 }
 
 // A kind of chain, by what belongs on it.

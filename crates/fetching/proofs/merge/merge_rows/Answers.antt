@@ -1,28 +1,19 @@
-use mathlib.Core.Path.{◌≡◌}
-use lib.ListN.{length}
-use native.Mathlib.Omega.{arith}
+-- `fetching::merge::merge_rows` meets its contract: each call of the closure gives the row merged with its item.
+use Rattle.std.proofs.Common.{◌≡◌, ℕ, arith, rules, length, get_or}
+use Rattle.item.specs.Item.{zero_item}
 use Rattle.item.specs.Maxima.{max_nodes}
 use Rattle.item.specs.Row.{zero_row}
-use Rattle.item.specs.Item.{zero_item}
 use Rattle.node.proofs.Array.{length_mapped}
-use Rattle.fetching.proofs.Merged.{merged_turn, merged_all}
+use Rattle.protocol.specs.Merge.{merge_row}
+use Rattle.fetching.proofs.Merged.{made_at, merged}
 use Rattle.fetching.proofs.merge.merge_rows.Goals as goal
-
-pub loop-i-preserved : goal.loop-i-preserved
-loop-i-preserved c =
-    let l = c.loop-i in
-    let a = c.args in
-    let long : length a.rows ≡ max_nodes = search length_mapped in
-    rw (
-      c.merge_row.ensures,
-      l.invariant,
-      merged_turn a.first l.i a.rows a.items.now zero_row zero_item (omega arith) (omega arith),
-    )
 
 pub returns : goal.returns
 returns c =
-    let l = c.loop-i in
     let a = c.args in
+    let new = c.from_fn.result in
+    let made = c.from_fn.ensures.items in
     let long : length a.rows ≡ max_nodes = search length_mapped in
-    let e : l.i ≡ max_nodes = omega arith in
-    rw (l.invariant, e, merged_all a.first max_nodes a.rows a.items.now long (omega arith))
+    let row = λ (k : ℕ). merge_row a.first (get_or a.rows k zero_row) (get_or a.items.now k zero_item) in
+    merged a.first a.rows a.items.now new (omega (arith, made.long)) (omega (arith, made.long))
+    (λ k h. made_at row (λ i y f' call. search rules) new max_nodes k zero_row made (omega (arith, made.long)))

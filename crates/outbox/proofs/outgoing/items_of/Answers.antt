@@ -1,16 +1,12 @@
-use Rattle.outbox.proofs.Places.{items_turn, items_end}
-use lib.ListN.{length-set}
-use native.Mathlib.Omega.{arith}
-use mathlib.Core.Path.{refl, ◌∙◌}
+-- `outbox::outgoing::items_of` meets its contract: the closure gives each row's item.
+use Rattle.std.proofs.Common.{rules}
+use Rattle.item.specs.Item.{zero_item}
+use Rattle.item.specs.Maxima.{max_nodes}
+use Rattle.item.specs.Row.{zero_row}
+use Rattle.item.specs.declared.Row.{Row}
+use Rattle.outbox.proofs.Places.{is_map}
 use Rattle.outbox.proofs.outgoing.items_of.Goals as goal
 
-pub loop-i-init : goal.loop-i-init
-loop-i-init c = (refl, refl)
-
-pub loop-i-preserved : goal.loop-i-preserved
-loop-i-preserved c =
-    let l = c.loop-i in
-    (length-set l.items l.i _ ∙ l.invariant.0, items_turn c.args.rows.now l.items l.i (omega (arith, l.invariant.0)) (omega (arith, c.told-rows)) l.invariant.1)
-
 pub returns : goal.returns
-returns c = let l = c.loop-i in items_end c.args.rows.now l.items l.i (omega (arith, l.invariant.0)) (omega (arith, c.told-rows)) l.invariant.1
+returns c =
+    is_map (λ (row : Row). row.item) c.args.rows.now c.map.result max_nodes zero_row zero_item (λ x y f' call. search rules) c.map.ensures.items c.told-rows

@@ -1,23 +1,21 @@
-use mathlib.Core.Path.{ap, ◌∙◌}
-use mir.Val.{bool_byte}
-use native.Mathlib.Omega.{arith}
-use Rattle.std.specs.Prelude.{is_some}
-use Rattle.protocol.specs.Outgoing.{outgoing}
-use Rattle.outbox.proofs.Places.{at_most_one, count_turn, count_end}
+-- `outbox::outgoing::Sending::count` meets its contract: the numbers that pass are counted, and `count_places` counts their places.
+use Rattle.std.proofs.Common.{ℕ, rules, refl, ◌∙◌, is_some}
+use Rattle.std.proofs.lemmas.Iterator.{YieldsList-from_range}
+use Rattle.std.proofs.lemmas.Iterator.Consumers.{YieldsList-from_filter, count_from_yields_List}
+use Rattle.std.proofs.lemmas.List.Sums.{length-filter}
+use Rattle.std.specs.List.{range_with_len}
+use borrow.Author.Tests.{tests}
+use Rattle.item.specs.Maxima.{max_nodes}
+use Rattle.protocol.specs.Outgoing.{outgoing_to, outgoing}
+use Rattle.outbox.proofs.Places.{count_places}
 use Rattle.outbox.proofs.outgoing.Sending.count.Goals as goal
 
-pub loop-k-init : goal.loop-k-init
-unfolding outgoing
-loop-k-init c = (omega arith, omega arith)
-
-pub loop-k-preserved : goal.loop-k-preserved
-loop-k-preserved c =
-    let l = c.loop-k in
-    let a = c.args in
-    let one = c.from-count.ensures ∙ ap bool_byte (c.is_some.ensures ∙ ap is_some c.to.ensures) in (
-      omega (arith, l.invariant.0, c.from-count.ensures, at_most_one c.is_some.result),
-      omega (arith, l.invariant.1, one, count_turn a.self.now.node.now a.self.now.sends a.self.now.back l.k c.loop-k-test.true),
-    )
-
 pub returns : goal.returns
-returns c = let l = c.loop-k in let a = c.args in omega (arith, l.invariant.1, count_end a.self.now.node.now a.self.now.sends a.self.now.back l.k c.loop-k-test.false)
+unfolding outgoing
+returns c =
+    let a = c.args.self.now in
+    let sent = λ (k : ℕ). is_some (outgoing_to a.node.now a.sends a.back k) in
+    count_from_yields_List c.filter.result _ c.count.ensures.ran
+    (YieldsList-from_filter _ sent (YieldsList-from_range 0 max_nodes max_nodes c.filter.ensures.source refl) c.filter.ensures.closure (λ x b f' call. search (rules, tests)))
+    ∙ length-filter sent (range_with_len 0 max_nodes)
+    ∙ count_places a.node.now a.sends a.back 0 max_nodes
