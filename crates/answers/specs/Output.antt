@@ -1,8 +1,7 @@
 -- The drill's output lines (document 01, Drill program): "For each it prints the line's count from 1, a space, and `ok`,
 -- `settled index tag`, `accepted index tag`, `stopped row` or `refused number`. Any other line prints `unread` after its
 -- count". Numbers are decimal.
-use Rattle.std.specs.Prelude.{ℕ, ◌+◌, ◌≡◌, List, [], ◌∷◌, ◌++◌, length, Option, Some, None}
-use Rattle.std.proofs.lemmas.List.Edits.{sets}
+use Rattle.std.specs.Prelude.{ℕ, List, [], ◌∷◌, ◌++◌, Option, Some, None}
 use Rattle.item.specs.declared.Item.{Item}
 use Rattle.item.specs.declared.Tag.{Tag}
 use Rattle.script.specs.Digits.{decimal_of}
@@ -57,8 +56,3 @@ output_line count r = decimal_of count ++ (space ∷ (reply_bytes r ++ (line_fee
 -- the bytes of the longest output line: an accepted item, every number of twenty digits
 abbrev pub line_room : ℕ
 line_room = 72
-
--- the text stands in the list from the place on, and the next place is after it
-pub record Written (out : List ℕ) (at : ℕ) (text : List ℕ) (next : ℕ) (last : List ℕ) : Type 0 where
-  pub place : next ≡ at + length text
-  pub bytes : last ≡ sets out at text

@@ -1,12 +1,9 @@
 // Decimal numbers of at most 64 bits, as text: read from a slice, and written into one.
 // Kept: reading by hand, since `parse` takes a sign and leading zeros.
-// Kept: slice and place, with one test for room: a sibling that writes at the start of a slice, with a test for each digit, is
-// proved, and makes an output line slower (the head of crate `answers` has the times).
 ghost use Rattle.std.specs.Prelude.{◌+◌, ◌<◌, ◌≤◌, ◌≡◌, [], ◌∷◌, length};
-ghost use Rattle.std.proofs.lemmas.List.Edits.{sets};
 ghost use Rattle.script.specs.Number.{leading_zero, number_from, number_in};
 ghost use Rattle.script.specs.Digits.{decimal_of, max_digits};
-ghost use Rattle.script.specs.Place.{place_after, placed};
+ghost use Rattle.script.specs.Place.{Begins, place_after, placed};
 
 // The most digits that a number takes.
 pub const MAX_DIGITS: usize = 20;
@@ -67,27 +64,29 @@ pub fn put_number(out: &mut [u8], at: usize, v: u64) -> usize
     if out.len() - MAX_DIGITS < at {
         return at;
     }
-    spell(out, at, v)
+    at + begin_with_number(&mut out[at..], v)
 }
 
-// Writes v in decimal at the place, where it fits, and gives the place after it.
-fn spell(out: &mut [u8], at: usize, v: u64) -> usize
-    requires { at + length (decimal_of v) ≤ length out.old }
-    ensures { (result ≡ at + length (decimal_of v)) × (out.new ≡ sets out.old at (decimal_of v)) }
+// Writes v in decimal at the start, where it fits, and gives how many bytes it wrote. Where it does not fit, which bytes
+// are written is open.
+pub fn begin_with_number(out: &mut [u8], v: u64) -> usize
+    ensures { Begins out.old (decimal_of v) result out.new }
 {
     if v < 10 {
-        out[at] = digit(v);
-        return at + 1;
+        return begin_with_digit(out, v);
     }
-    let next = spell(out, at, v / 10);
-    out[next] = digit(v % 10);
-    next + 1
+    let next = begin_with_number(out, v / 10);
+    next + begin_with_digit(&mut out[next..], v % 10)
 }
 
-// The digit of a number below ten.
-fn digit(d: u64) -> u8
+// Writes the digit of a number below ten at the start, where there is a byte.
+fn begin_with_digit(out: &mut [u8], d: u64) -> usize
     requires { d < 10 }
-    ensures { result ≡ 48 + d }
+    ensures { Begins out.old ((48 + d) ∷ []) result out.new }
 {
-    b'0' + d as u8
+    if out.is_empty() {
+        return 0;
+    }
+    out[0] = b'0' + d as u8;
+    1
 }

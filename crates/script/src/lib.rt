@@ -10,7 +10,7 @@ ghost use Rattle.script.specs.Line.{lettered, line_of, with_number, write_of};
 
 pub use buffer::LineBuffer;
 use decimal::number_in;
-pub use decimal::put_number;
+pub use decimal::{begin_with_number, put_number};
 use item::Tag;
 use protocol::Event;
 

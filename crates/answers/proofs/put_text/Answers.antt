@@ -1,8 +1,6 @@
 use native.Mathlib.Omega.{arith}
-use mathlib.Core.Path.{refl}
-use Rattle.answers.proofs.Printing.{part_written}
+use Rattle.script.proofs.Writing.{begun_with}
 use Rattle.answers.proofs.put_text.Goals as goal
 
 pub returns : goal.returns
-returns c =
-    record { place = refl; bytes = part_written _ _ _ _ _ (omega arith) c.copy_from_slice.ensures.after c.requires }
+returns c = rw c.copy_from_slice.ensures.after (begun_with c.args.out.now c.args.text.now (omega arith))
