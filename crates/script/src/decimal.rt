@@ -5,6 +5,8 @@ ghost use Rattle.script.specs.Number.{leading_zero, number_from, number_in};
 ghost use Rattle.script.specs.Digits.{decimal_of, max_digits};
 ghost use Rattle.script.specs.Place.{Begins, place_after, placed};
 
+use endian::lies_within;
+
 // The most digits that a number takes.
 pub const MAX_DIGITS: usize = 20;
 
@@ -58,10 +60,7 @@ fn with_digit(v: u64, b: u8) -> Option<u64>
 pub fn put_number(out: &mut [u8], at: usize, v: u64) -> usize
     ensures { (result ≡ place_after max_digits out.old at (decimal_of v)) × (out.new ≡ placed max_digits out.old at (decimal_of v)) }
 {
-    if out.len() < MAX_DIGITS {
-        return at;
-    }
-    if out.len() - MAX_DIGITS < at {
+    if !lies_within(out.len(), at, MAX_DIGITS) {
         return at;
     }
     at + begin_with_number(&mut out[at..], v)
