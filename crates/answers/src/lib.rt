@@ -1,34 +1,35 @@
 // The drill's output lines, printed into a lent slice.
-// Kept: no struct of slice and place at `print_line`: tried with its room as a ghost field, and the proof of its method
-// for a text did not close.
+// Kept: no struct of slice and place at `print_line` and `has_room`: tried with its room as a ghost field, and the proof of
+// its method for a text did not close.
 // Kept: no `impl Display`: tried through a writer that never fails, and the goal after an `Err` of `writeln!` stays open,
 // since the clauses of `fmt` speak of `Ok` alone.
 #![tactic(auto)]
 
-mod refusals;
-
-ghost use Rattle.std.specs.Prelude.{◌≡◌, ◌++◌};
+ghost use Rattle.std.specs.Prelude.{◌+◌, ◌≡◌, ◌++◌, leb, length};
 ghost use Rattle.script.specs.Digits.{decimal_of};
 ghost use Rattle.script.specs.Place.{Begins, place_after, placed};
 ghost use Rattle.answers.specs.Output.{answer_bytes, item_bytes, line_room, output_line, reply_bytes, tag_bytes};
 
 use item::{Item, Tag};
 use protocol::Answer;
-use refusals::refusal_number;
 use script::begin_with_number;
 
 // The bytes of the longest output line.
 pub const LINE_ROOM: usize = 72;
+
+// Whether the longest line has room from the place on.
+pub fn has_room(out: &[u8], at: usize) -> bool
+    ensures { result ≡ leb (at + line_room) (length out.now) }
+{
+    LINE_ROOM <= out.len() && at <= out.len() - LINE_ROOM
+}
 
 // Writes the output line at the place: the count, and what the input line was answered, or that it was not read. Gives
 // the place after it. Where fewer bytes are left than the longest line takes, nothing is written and the place comes back.
 pub fn print_line(out: &mut [u8], at: usize, count: u64, reply: Option<Answer>) -> usize
     ensures { (result ≡ place_after line_room out.old at (output_line count reply)) × (out.new ≡ placed line_room out.old at (output_line count reply)) }
 {
-    if out.len() < LINE_ROOM {
-        return at;
-    }
-    if out.len() - LINE_ROOM < at {
+    if !has_room(out, at) {
         return at;
     }
     at + put_line(&mut out[at..], count, reply)
@@ -56,7 +57,7 @@ fn put_reply(out: &mut [u8], reply: Option<Answer>) -> usize
     }
 }
 
-#[tactic(auto, unfolding(crate::specs::Output::answer_bytes))]
+#[tactic(auto, unfolding(crate::specs::Output::answer_bytes, protocol::specs::Answer::refusal_number))]
 fn put_answer(out: &mut [u8], answer: Answer) -> usize
     ensures { Begins out.old (answer_bytes answer) result out.new }
 {
@@ -65,7 +66,7 @@ fn put_answer(out: &mut [u8], answer: Answer) -> usize
         Answer::Settled(item) => put_item(out, b"settled ", item),
         Answer::Accepted(item) => put_item(out, b"accepted ", item),
         Answer::Stopped(row) => put_value(out, b"stopped ", row as u64),
-        Answer::Refused(why) => put_value(out, b"refused ", refusal_number(why)),
+        Answer::Refused(why) => put_value(out, b"refused ", why as u64),
     }
 }
 

@@ -1,13 +1,12 @@
 // A drill's script, read up to the next line that asks something of the group, and the answers printed. It sees neither
 // nodes nor store.
-ghost use Rattle.std.specs.Prelude.{ℕ, ◌+◌, ◌≡◌, List, leb};
-ghost use Rattle.answers.specs.Output.{line_room};
+ghost use Rattle.std.specs.Prelude.{ℕ, ◌≡◌, List};
 ghost use Rattle.drill_state.specs.Turn.{size_after};
 ghost use Rattle.drill_state.specs.Position.{Onward, Reached, asked_by, nothing_asked, size_then};
 ghost use Rattle.drill_state.specs.Steps.{Answers, Reads};
 
 use crate::Progress;
-use answers::{LINE_ROOM, print_line};
+use answers::{has_room, print_line};
 use protocol::Answer;
 use script::{Asked, Line, LineBuffer};
 
@@ -62,14 +61,6 @@ fn asked_by(n: u64, line: Option<Line>) -> Option<Asked>
     }
 }
 
-// Kept: three lines as in `endian::lies_within`, for one width; no crate below both has a slice of output.
-// Whether another line has room where so many bytes can be printed.
-fn has_room(len: usize, at: usize) -> bool
-    ensures { result ≡ leb (at + line_room) len }
-{
-    LINE_ROOM <= len && at <= len - LINE_ROOM
-}
-
 // Reads on up to the end of a line that asks something; a line that is unread is answered at once. It stops before a
 // line feed where `out` has no room for another line, and where no count is left.
 fn read_on(piece: &[u8], from: Position, out: &mut [u8]) -> Position
@@ -88,7 +79,7 @@ fn read_on(piece: &[u8], from: Position, out: &mut [u8]) -> Position
             here.next += 1;
             continue;
         }
-        if !has_room(out.len(), here.at) {
+        if !has_room(out, here.at) {
             break;
         }
         if here.count == u64::MAX {

@@ -107,7 +107,7 @@ module _ (script store out : List ℕ) (start last : Progress) (zeros : List ℕ
   printed_most = let k = rw s at t.counted in omega (arith, k.lines, k.room)
 
   -- where a line had no room left
-  none_left : length out < at + line_room → ScriptRun script out not_all
+  pub none_left : length out < at + line_room → ScriptRun script out not_all
   none_left h =
       record {
         printed = λ n. absurd (n refl);
@@ -143,17 +143,13 @@ module _ (script store out : List ℕ) (start last : Progress) (zeros : List ℕ
   pub cut_short : next < length script → length script < 18446744073709551616 → ScriptRun script out not_all
   cut_short h fits = none_left (stopped h fits)
 
-  -- before an unended last line
-  pub no_room : length out - at < line_room → ScriptRun script out not_all
-  no_room h = none_left (omega (arith, h, t.within.1))
-
   -- after the last line feed
   pub ended : {len : ℕ} → length out ≡ len → len < 18446744073709551616 → length script ≤ next → last.pending.len ≡ 0 → ScriptRun script out at
   ended same fits h e = all_printed script out at t.within.1 same fits (whole_ended h e)
 
   -- after an unended last line, that stands in the first r bytes of what stood after the others
   pub unended : (part : List ℕ) (r : ℕ) {len : ℕ} → length out ≡ len → len < 18446744073709551616 → length script < 18446744073709551616
-      → length script ≤ next → (last.pending.len ≡ 0 → ⊥) → line_room ≤ length out - at
+      → length script ≤ next → (last.pending.len ≡ 0 → ⊥) → at + line_room ≤ length out
       → length (mid_of at (length out - at) out) ≡ length out - at
       → length part ≡ length (mid_of at (length out - at) out)
       → length (put_mid at (length out - at) out part) ≡ length out
@@ -161,7 +157,7 @@ module _ (script store out : List ℕ) (start last : Progress) (zeros : List ℕ
       → (last.count + 1 < 18446744073709551616 → line_room ≤ length (mid_of at (length out - at) out) → take r part ≡ last_output last.count last.pending.len)
       → ScriptRun script (put_mid at (length out - at) out part) (at + r)
   unended part r same fits few h n room mid held put m text =
-      let line = text (count_left few n) (omega (arith, mid, room)) in
+      let line = text (count_left few n) (omega (arith, mid, room, t.within.1)) in
       all_printed script (put_mid at (length out - at) out part) (at + r) (omega (arith, mid, held, put, m, t.within.1)) (put ∙ same) fits
       (whole h
       ∙ ap (λ (l : List ℕ). take at out ++ l) (sym line)

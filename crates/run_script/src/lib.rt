@@ -4,7 +4,7 @@
 ghost use Rattle.std.specs.Prelude.{unwrap_or};
 ghost use Rattle.run_script.specs.Script.{ScriptRun, not_all};
 
-use answers::LINE_ROOM;
+use answers::has_room;
 use drill_run::{STORE_ROOM, feed};
 use drill_state::{Progress, finish};
 
@@ -24,7 +24,7 @@ pub fn run(script: &[u8], out: &mut [u8]) -> Option<usize>
     if pending.len == 0 {
         return Some(at);
     }
-    if out.len() - at < LINE_ROOM {
+    if !has_room(out, at) {
         return None;
     }
     Some(at + finish(last, &mut out[at..]))

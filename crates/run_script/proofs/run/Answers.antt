@@ -1,11 +1,14 @@
 -- `run_script::run` meets its contract: the script is one piece, and what it leaves to print is the unended last line.
 use Prim.Native.Nat.{ℕ, ◌+◌, ◌-◌, ◌*◌, ◌≤◌, ◌<◌}
 use native.Mathlib.Omega.{arith}
-use mathlib.Core.Path.{◌≡◌, ◌∙◌}
+use mathlib.Core.Path.{◌≡◌, sym, ◌∙◌}
 use lib.ListN.{take, replicate}
+use borrow.Author.Tests.{leb-true, leb-false}
+use borrow.Author.Rules.{rules}
+use Rattle.item.specs.Tests.{granted}
 use Rattle.record.specs.Layout.{record_size}
 use Rattle.store.specs.Records.{record_count}
-use Rattle.run_script.proofs.ScriptLaws.{first_of_replicate, cut_short, no_room, ended, unended}
+use Rattle.run_script.proofs.ScriptLaws.{first_of_replicate, none_left, cut_short, ended, unended}
 use Rattle.run_script.proofs.run.Goals as goal
 
 -- the store that is lent holds zeros
@@ -24,11 +27,8 @@ returns-then-fed-script c = cut_short _ _ _ _ _ _ _ _ c.feed-fed.ensures c.start
 pub returns-then-pending-eq0 : goal.returns-then-pending-eq0
 returns-then-pending-eq0 c = ended _ _ _ _ _ _ _ _ c.feed-fed.ensures c.start.ensures store-zeros c.out-1.given c.well_formed.1.0.0 c.if-fed-script.false c.if-pending-eq0.true
 
-pub overflow_sub-out : goal.overflow_sub-out
-overflow_sub-out c = c.feed-fed.ensures.within.1
-
-pub returns-then-out-at-lt-LINE_ROOM : goal.returns-then-out-at-lt-LINE_ROOM
-returns-then-out-at-lt-LINE_ROOM c = no_room _ _ _ _ _ _ _ _ c.feed-fed.ensures c.start.ensures store-zeros c.if-out-at-lt-LINE_ROOM.true
+pub returns-then-not-has_room : goal.returns-then-not-has_room
+returns-then-not-has_room c = none_left _ _ _ _ _ _ _ _ c.feed-fed.ensures c.start.ensures store-zeros (leb-false _ _ (sym c.has_room.ensures ∙ search rules))
 
 pub slice_bounds-finish-count : goal.slice_bounds-finish-count
 slice_bounds-finish-count c = c.feed-fed.ensures.within.1
@@ -50,7 +50,7 @@ returns c =
     good.0.0
     c.if-fed-script.false
     c.if-pending-eq0.false
-    c.if-out-at-lt-LINE_ROOM.false
+    (leb-true _ _ (granted c.has_room.ensures (search rules)))
     c.finish-arg-1.given.2
     back.0
     back.1

@@ -39,7 +39,7 @@ returns-after-loop-here c =
 
 pub returns-then-not-has_room : goal.returns-then-not-has_room
 returns-then-not-has_room c =
-    ended_there c.loop-here.invariant.1 (λ few. inr (inl (leb-false _ _ (sym c.has_room.ensures ∙ c.if-not-has_room.true))))
+    ended_there c.loop-here.invariant.1 (λ few. inr (inl (leb-false _ _ (sym c.has_room.ensures ∙ search rules))))
 
 pub returns-then-here : goal.returns-then-here
 returns-then-here c = ended_there c.loop-here.invariant.1 (λ few. inr (inr (omega (arith, c.if-here.true))))
