@@ -1,7 +1,7 @@
 -- Laws of chunks, over their size: a chunk written is read back, every other is as it was, and a list cut once has the
 -- same chunks.
 use Prim.Native.Nat.{ℕ, zero, suc, ◌+◌, ◌*◌, ◌≤◌, ◌<◌}
-use mathlib.Core.Path.{◌≡◌, refl, sym, ap, ◌∙◌}
+use mathlib.Core.Path.{◌≡◌, sym, ap, ◌∙◌}
 use mathlib.Core.List.{List, [], ◌∷◌, ◌++◌, append_assoc}
 use native.Mathlib.Omega.{arith}
 use native.Mathlib.Nat.{suc-mul, zero-mul, mul-le-mul_right, zero-add, add_comm, le_refl, not-suc-le-zero, le_of_suc-le-suc}
@@ -15,11 +15,6 @@ ends_before : (size i j : ℕ) → i < j → i * size + size ≤ j * size
 ends_before size i j h = rw (← suc-mul i size) (mul-le-mul_right size h)
 
 -- ---- a list cut once
-
-pub length_cut : (size k : ℕ) (s : List ℕ) → length (cut size k s) ≡ k
-unfolding cut
-length_cut size zero s = refl
-length_cut size (suc k) s = ap suc (length_cut size k (drop size s))
 
 -- a chunk that lies within, cut out
 pub get_or_cut : (size k : ℕ) (s : List ℕ) (i : ℕ) (c : List ℕ) → i < k → get_or (cut size k s) i c ≡ take size (drop (i * size) s)

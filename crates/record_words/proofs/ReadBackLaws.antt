@@ -127,9 +127,6 @@ read_back n ns w e =
 
 -- ---- the bytes straight from the numbers
 
-pub stated_fits : (n : ℕ) (ns : List ℕ) → is_stated (stated n ns) ≡ true → Fit ns
-stated_fits n ns e = (stated_is n ns e).fit
-
 -- numbers that are a message are the fields and rows of its bytes as they stand: what it does not use is 0 in them
 pub bytes_straight : (n : ℕ) (ns : List ℕ) → is_stated (stated n ns) ≡ true → layout_bytes (get_or ns 0 0) (fields_from ns) (rows_from ns) ≡ numbers_bytes n ns
 unfolding numbers_bytes bytes_as record_bytes held_rows rows_from

@@ -1,6 +1,6 @@
 -- Records as put and drop need them, and that those of a sound store are so.
 use Prim.Native.Nat.{ℕ, ◌^◌, ◌≤◌, ◌<◌}
-use mathlib.Core.Path.{◌≡◌, ap, ◌∙◌}
+use mathlib.Core.Path.{◌≡◌}
 use mathlib.Core.Bool.{true}
 use mathlib.Core.List.{List, [], ◌∷◌}
 use native.Mathlib.Omega.{arith}
@@ -9,13 +9,12 @@ use lib.Dec.{leb}
 use borrow.Author.Tests.{leb-true}
 use lib.ListN.{length}
 use Rattle.item.specs.Maxima.{max_nodes, valid_size}
-use Rattle.item.specs.Tests.{and_left, and_right, and_both}
+use Rattle.item.specs.Tests.{and_left, and_right}
 use Rattle.record.specs.Layout.{record_size}
-use Rattle.store.specs.Records.{record_in, records_of, right_length, on_records}
+use Rattle.store.specs.Records.{record_in, records_of, right_length}
 use Rattle.store.specs.Head.{group_size}
 use Rattle.store.specs.Sound.{sound_records, sound_store}
-use Rattle.store.proofs.Joined.{Sized, records_count, records_sized, right_after}
-use Rattle.store.proofs.Locality.{Local, local_after}
+use Rattle.store.proofs.Joined.{Sized, records_count, records_sized}
 
 -- sound, of the size of a record, and with numbers that two bytes can say
 pub record Sound (rs : List (List ℕ)) : Type 0 where
@@ -36,14 +35,6 @@ store_sound s e =
       sized = records_sized s (store_right s e);
       few = omega (arith, records_count s);
     }
-
--- and a change that leaves the records sound leaves the store sound
-pub store_after : {New : List ℕ → Type 0} (change : List (List ℕ) → List (List ℕ)) (s : List ℕ) → right_length s ≡ true
-    → Local New (records_of s) (change (records_of s)) → sound_records (change (records_of s)) ≡ true → sound_store (on_records change s) ≡ true
-unfolding sound_store
-store_after change s right a sound =
-    and_both (right_after change s right (a.count ∙ records_count s) (a.sized (records_sized s right)))
-    (ap sound_records (local_after change s right a) ∙ sound)
 
 -- ---- the head
 
