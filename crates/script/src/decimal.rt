@@ -1,14 +1,9 @@
 // Decimal numbers of at most 64 bits, as text: read from a slice, and written into one.
 // Kept: reading by hand, since `parse` takes a sign and leading zeros.
-ghost use Rattle.std.specs.Prelude.{◌+◌, ◌<◌, ◌≤◌, ◌≡◌, [], ◌∷◌, length};
+ghost use Rattle.std.specs.Prelude.{◌+◌, ◌<◌, ◌≡◌, [], ◌∷◌};
 ghost use Rattle.script.specs.Number.{leading_zero, number_from, number_in};
-ghost use Rattle.script.specs.Digits.{decimal_of, max_digits};
-ghost use Rattle.script.specs.Place.{Begins, place_after, placed};
-
-use endian::lies_within;
-
-// The most digits that a number takes.
-pub const MAX_DIGITS: usize = 20;
+ghost use Rattle.script.specs.Digits.{decimal_of};
+ghost use Rattle.script.specs.Place.{Begins};
 
 // The number that the bytes write: digits only, at least one, no leading zero but that of `0`, at most 64 bits.
 #[tactic(auto, unfolding(crate::specs::Number::number_in))]
@@ -53,17 +48,6 @@ fn with_digit(v: u64, b: u8) -> Option<u64>
     }
     let tens = v.checked_mul(10)?;
     tens.checked_add((b - b'0') as u64)
-}
-
-// Writes v in decimal at the place, and gives the place after it. Where fewer bytes are left than the longest number
-// takes, nothing is written and the place comes back.
-pub fn put_number(out: &mut [u8], at: usize, v: u64) -> usize
-    ensures { (result ≡ place_after max_digits out.old at (decimal_of v)) × (out.new ≡ placed max_digits out.old at (decimal_of v)) }
-{
-    if !lies_within(out.len(), at, MAX_DIGITS) {
-        return at;
-    }
-    at + begin_with_number(&mut out[at..], v)
 }
 
 // Writes v in decimal at the start, where it fits, and gives how many bytes it wrote. Where it does not fit, which bytes
