@@ -7,13 +7,13 @@
 
 ghost use Rattle.std.specs.Prelude.{◌+◌, ◌≡◌, ◌++◌, leb, length};
 ghost use Rattle.script.specs.Digits.{decimal_of};
-ghost use Rattle.script.specs.Place.{Begins, place_after, placed};
+ghost use Rattle.answers.specs.Place.{Begins, place_after, placed};
 ghost use Rattle.answers.specs.Output.{answer_bytes, item_bytes, line_room, output_line, reply_bytes, tag_bytes};
 
 use endian::lies_within;
 use item::{Item, Tag};
+use itoa::Buffer;
 use protocol::Answer;
-use script::begin_with_number;
 
 // The bytes of the longest output line.
 pub const LINE_ROOM: usize = 72;
@@ -41,7 +41,7 @@ pub fn print_line(out: &mut [u8], at: usize, count: u64, reply: Option<Answer>) 
 fn put_line(out: &mut [u8], count: u64, reply: Option<Answer>) -> usize
     ensures { Begins out.old (output_line count reply) result out.new }
 {
-    let counted = begin_with_number(out, count);
+    let counted = put_number(out, count);
     let spaced = counted + put_text(&mut out[counted..], b" ");
     let replied = spaced + put_reply(&mut out[spaced..], reply);
     replied + put_text(&mut out[replied..], b"\n")
@@ -86,14 +86,14 @@ fn put_value(out: &mut [u8], word: &[u8], v: u64) -> usize
     ensures { Begins out.old (word.now ++ decimal_of v) result out.new }
 {
     let next = put_text(out, word);
-    next + begin_with_number(&mut out[next..], v)
+    next + put_number(&mut out[next..], v)
 }
 
 #[tactic(auto, unfolding(crate::specs::Output::tag_bytes))]
 fn put_tag(out: &mut [u8], tag: Tag) -> usize
     ensures { Begins out.old (tag_bytes tag) result out.new }
 {
-    begin_with_number(out, tag.0)
+    put_number(out, tag.0)
 }
 
 // Writes some bytes.
@@ -105,4 +105,11 @@ fn put_text(out: &mut [u8], text: &[u8]) -> usize
     }
     out[..text.len()].copy_from_slice(text);
     text.len()
+}
+
+// Writes a number in decimal.
+fn put_number(out: &mut [u8], v: u64) -> usize
+    ensures { Begins out.old (decimal_of v) result out.new }
+{
+    put_text(out, Buffer::new().format(v).as_bytes())
 }

@@ -15,8 +15,8 @@ use Rattle.answers.proofs.Printing.{line_length}
 use Rattle.std.specs.Prelude.{Option}
 use Rattle.protocol.specs.declared.Answer.{Answer}
 use Rattle.script.specs.Bytes.{line_feed}
-use Rattle.script.specs.Place.{placed, place_after}
-use Rattle.script.proofs.Writing.{placed_fits, placed_none, after_fits, after_none}
+use Rattle.answers.specs.Place.{placed, place_after}
+use Rattle.answers.proofs.Placing.{placed_fits, placed_none, after_fits, after_none}
 use Rattle.script.specs.LineBuffer.{most_bytes, none_yet, pushed, pushed_all, buffered_line}
 use Rattle.script.specs.declared.Line.{Line}
 use Rattle.script.specs.declared.buffer.LineBuffer.{LineBuffer}

@@ -12,7 +12,7 @@ use Rattle.answers.specs.Output.{output_line, line_room}
 use Rattle.std.specs.Prelude.{Option, Some, None, option_map, is_some}
 use Rattle.script.specs.declared.Asked.TheVariants as ask
 use Rattle.script.specs.Bytes.{line_feed}
-use Rattle.script.specs.Place.{placed, place_after}
+use Rattle.answers.specs.Place.{placed, place_after}
 use Rattle.script.specs.declared.Asked.{Asked}
 use Rattle.script.specs.Operated.{operated, operated_first, put_first, asked_size}
 use Rattle.script.specs.LineBuffer.{none_yet, pushed, buffered_line}

@@ -1,7 +1,6 @@
 pub mod Bytes
 pub mod Number
 pub mod Digits
-pub mod Place
 pub mod Line
 pub mod Operated
 pub mod LineBuffer

@@ -1,9 +1,7 @@
-// Decimal numbers of at most 64 bits, as text: read from a slice, and written into one.
+// Decimal numbers of at most 64 bits, read from a slice.
 // Kept: reading by hand, since `parse` takes a sign and leading zeros.
 ghost use Rattle.std.specs.Prelude.{◌+◌, ◌<◌, ◌≡◌, [], ◌∷◌};
 ghost use Rattle.script.specs.Number.{leading_zero, number_from, number_in};
-ghost use Rattle.script.specs.Digits.{decimal_of};
-ghost use Rattle.script.specs.Place.{Begins};
 
 // The number that the bytes write: digits only, at least one, no leading zero but that of `0`, at most 64 bits.
 #[tactic(auto, unfolding(crate::specs::Number::number_in))]
@@ -48,28 +46,4 @@ fn with_digit(v: u64, b: u8) -> Option<u64>
     }
     let tens = v.checked_mul(10)?;
     tens.checked_add((b - b'0') as u64)
-}
-
-// Writes v in decimal at the start, where it fits, and gives how many bytes it wrote. Where it does not fit, which bytes
-// are written is open.
-pub fn begin_with_number(out: &mut [u8], v: u64) -> usize
-    ensures { Begins out.old (decimal_of v) result out.new }
-{
-    if v < 10 {
-        return begin_with_digit(out, v);
-    }
-    let next = begin_with_number(out, v / 10);
-    next + begin_with_digit(&mut out[next..], v % 10)
-}
-
-// Writes the digit of a number below ten at the start, where there is a byte.
-fn begin_with_digit(out: &mut [u8], d: u64) -> usize
-    requires { d < 10 }
-    ensures { Begins out.old ((48 + d) ∷ []) result out.new }
-{
-    if out.is_empty() {
-        return 0;
-    }
-    out[0] = b'0' + d as u8;
-    1
 }

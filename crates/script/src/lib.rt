@@ -9,7 +9,6 @@ ghost use Rattle.script.specs.Bytes.{space};
 ghost use Rattle.script.specs.Line.{lettered, line_of, with_number, write_of};
 
 pub use buffer::LineBuffer;
-pub use decimal::begin_with_number;
 use decimal::number_in;
 use item::Tag;
 use protocol::Event;

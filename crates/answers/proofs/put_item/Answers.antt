@@ -3,7 +3,7 @@ use mathlib.Core.List.{◌∷◌, ◌++◌, append_assoc}
 use lib.Seq.{append_snoc}
 use Rattle.script.specs.Bytes.{space}
 use Rattle.script.specs.Digits.{decimal_of}
-use Rattle.script.proofs.Writing.{goes_on}
+use Rattle.answers.proofs.Placing.{goes_on}
 use Rattle.answers.specs.Output.{tag_bytes, item_bytes}
 use Rattle.answers.proofs.put_item.Goals as goal
 

@@ -3,7 +3,7 @@ use mathlib.Core.List.{[], ◌∷◌, ◌++◌, append_assoc}
 use lib.Seq.{append_snoc}
 use Rattle.script.specs.Bytes.{space, line_feed}
 use Rattle.script.specs.Digits.{decimal_of}
-use Rattle.script.proofs.Writing.{goes_on}
+use Rattle.answers.proofs.Placing.{goes_on}
 use Rattle.answers.specs.Output.{output_line, reply_bytes}
 use Rattle.answers.proofs.put_line.Goals as goal
 
@@ -13,4 +13,4 @@ returns c =
     let d = decimal_of c.args.count in
     let r = reply_bytes c.args.reply in
     rw (← append_snoc d space (r ++ (line_feed ∷ [])), ← append_assoc (d ++ (space ∷ [])) r (line_feed ∷ []))
-    (goes_on (goes_on (goes_on c.begin_with_number-counted.ensures c.put_text.ensures) c.put_reply.ensures) c.put_text-2.ensures)
+    (goes_on (goes_on (goes_on c.put_number-counted.ensures c.put_text.ensures) c.put_reply.ensures) c.put_text-2.ensures)

@@ -1,5 +1,5 @@
 use native.Mathlib.Omega.{arith}
-use Rattle.script.proofs.Writing.{begun_with}
+use Rattle.answers.proofs.Placing.{begun_with}
 use Rattle.answers.proofs.put_text.Goals as goal
 
 pub returns : goal.returns
