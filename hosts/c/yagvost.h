@@ -8,7 +8,7 @@
  * What a host owes: a host that runs nodes on machines of their own keeps the incarnation that a Start gives where no
  * rollback reaches it, before the first Fetch goes out, and never lets it fall or uses it twice; runs a node in one copy
  * at a time; and delivers only messages that a member of the group sent, unchanged. A store is written by nobody else
- * between two calls. README.md says why. */
+ * between two calls. docs/HOSTS.md says why. */
 #ifndef YAGVOST_H
 #define YAGVOST_H
 
