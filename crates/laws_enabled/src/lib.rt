@@ -1,5 +1,5 @@
 // When each operation acts, that is, is not refused: on a sound table and store a test in the words of document 01 says it
-// exactly. Each law is a statement of specs/ and the contract of a function that does nothing; the proofs are in proofs/.
+// exactly.
 #![tactic(auto)]
 
 ghost use Rattle.laws_enabled.specs.Laws.{SetUpActs, WriteActs, RetryActs, CrashActs, StartActs, DropActs, DeliverActs};

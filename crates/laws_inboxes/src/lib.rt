@@ -1,5 +1,4 @@
 // What the store holds after a call: each inbox as the list of its messages, the free chain, and how many records are free.
-// Each law is a statement of specs/ and the contract of a function that does nothing; the proofs are in proofs/.
 #![tactic(auto)]
 
 ghost use Rattle.laws_inboxes.specs.Laws.{SetUpEmpties, HoldsAfterCall, RecordsCounted};

@@ -1,5 +1,5 @@
 // A write gets through: where its Stores, the answers, the Confirms and their answers are delivered to and from f peers that
-// are Up, it is settled. Each law is a statement of specs/ and the contract of a function that does nothing.
+// are Up, it is settled.
 #![tactic(auto)]
 
 ghost use Rattle.laws_liveness.specs.Laws.{WriteGetsThrough, FirstWriteGetsThrough, RetryGetsThrough};

@@ -1,5 +1,4 @@
-// The laws of one node's decisions: statements over every decision at once, each the contract of a
-// function that does nothing. The definitions are in specs/, the proofs in proofs/; there is no code.
+// The laws of one node's decisions: statements over every decision at once.
 #![tactic(auto)]
 
 ghost use Rattle.laws_node.specs.Laws.{

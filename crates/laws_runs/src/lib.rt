@@ -1,5 +1,5 @@
 // The laws of runs: table and store stay sound, so that no call of a run is refused with 2 or 3; and what the calls tell of
-// a node's own item. Each law is a statement of specs/ and the contract of a function that does nothing; there is no code.
+// a node's own item.
 #![tactic(auto)]
 
 ghost use Rattle.laws_runs.specs.Along.{OwnAlong, LastNeverFalls, SettledWasWritten};
