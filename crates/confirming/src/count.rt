@@ -11,8 +11,8 @@ use sender_view::{Decision, NodeChange, SenderView, count_sender, own_write};
 
 // Confirmed: refused with 9, with 10 (also where the sender was not asked under this incarnation) or 11; otherwise
 // the sender is counted: at f the write has ended, and the node is Up and Idle.
-// Kept: the view is of the node, the incarnation of the envelope, the rest of the message, which has them as fields of its
-// own; a struct of them would be built for this one call.
+// Kept: the view is of the node, the incarnation of the envelope, the rest of the message. A struct of that rest would stand in
+// three kinds of `Message` and be taken apart in each definition and law of them; document 01 lists the fields one by one.
 #[tactic(auto, unfolding(crate::specs::Decisions::confirmed_decision, item::specs::Counter::same_incarnation))]
 pub fn on_confirmed(
     view: SenderView,

@@ -20,8 +20,8 @@ fn stored_under(row: Row, incarnation: Incarnation, attempt: Attempt, item: Item
 
 // Confirm: refused with 9, or with 10 where the node has started since it stored or the sender's row has something
 // else by now; otherwise Confirmed goes back.
-// Kept: the view is of the node, the incarnation of the envelope, the rest of the message, which has them as fields of its
-// own; a struct of them would be built for this one call.
+// Kept: the view is of the node, the incarnation of the envelope, the rest of the message. A struct of that rest would stand in
+// three kinds of `Message` and be taken apart in each definition and law of them; document 01 lists the fields one by one.
 #[tactic(auto, unfolding(crate::specs::Decisions::confirm_decision, item::specs::Counter::same_incarnation))]
 pub fn on_confirm(
     view: SenderView,

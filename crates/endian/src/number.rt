@@ -18,6 +18,7 @@ pub trait Number: Copy {
         ensures { number result ≡ v % 256 ^ WIDTH };
 
     // The same number in eight bytes.
+    // Kept: `wide` and not `Into<u64>`, since the trait says of it that the number stays the same.
     fn wide(self) -> u64
         ensures { result ≡ number self };
 

@@ -1,5 +1,5 @@
 // Whether a node is at rest (no row marked, nobody counted or asked) and its unused rows are zero: all that is to be asked of
-// one that is Up and Idle. The loops are short and branch-free, so that the compiler unrolls them.
+// one that is Up and Idle. The tests are joined without a branch, so that the compiler unrolls them.
 ghost use Rattle.std.specs.Prelude.{◌≡◌};
 ghost use Rattle.std.specs.List.{list_all};
 ghost use Rattle.node_sound.specs.Rest.{unmarked, absent, at_rest, numbers_zero, row_bits, unused_zero};
@@ -30,8 +30,8 @@ fn no_peers(peers: &[Option<Incarnation>; item::MAX_NODES]) -> bool
     peers.iter().fold(true, |all, peer| all & is_absent(peer))
 }
 
-// Whether the peer is neither counted nor asked. By `matches!` and not by `is_none`, which asks for the other variant: so the
-// compiler joins the tests of all peers into one.
+// Whether the peer is neither counted nor asked.
+// Kept: `matches!` and not `is_none`, which asks for the other variant: with it the compiler tests each peer by itself.
 fn is_absent(peer: &Option<Incarnation>) -> bool
     ensures { result ≡ absent peer.now }
 {

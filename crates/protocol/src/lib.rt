@@ -83,8 +83,7 @@ pub enum Refusal {
 }
 
 // What a call answers.
-// Kept: a refusal is one of document 01's answers, printed and compared as the others are. A decision that refuses gives a
-// `Result`.
+// Kept: a refusal is one of document 01's answers and is printed as the others are. A decision that refuses gives a `Result`.
 #[derive(Clone, Copy)]
 pub enum Answer {
     Ok,

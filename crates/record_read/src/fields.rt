@@ -43,6 +43,7 @@ pub fn read_fields(r: &[u8]) -> Fields
 }
 
 // The rows of a record, used or not.
+// Kept: beside `record_words::rows_in`, which reads numbers. What is alike in both is the array; each item is read in its own way.
 pub fn read_rows(r: &[u8]) -> [Item; item::MAX_NODES]
     ensures { result ≡ rows_of r.now }
 {

@@ -6,6 +6,7 @@ use crate::words::{COUNT, ROWS_FIRST};
 use item::{Index, Item, Tag};
 
 // The items of the rows.
+// Kept: beside `record_read::rows`, for the reason that is given there.
 pub fn rows_in(numbers: &[u64; COUNT]) -> [Item; item::MAX_NODES]
     ensures { result ≡ rows_from numbers.now }
 {

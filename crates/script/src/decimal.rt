@@ -1,5 +1,5 @@
 // Decimal numbers of at most 64 bits, read from a slice.
-// Kept: reading by hand, since `parse` takes a sign and leading zeros.
+// Kept: reading by hand, since `parse` wants a `&str` and takes a sign, so that a test of the bytes would stay.
 ghost use Rattle.std.specs.Prelude.{◌+◌, ◌<◌, ◌≡◌, [], ◌∷◌};
 ghost use Rattle.script.specs.Number.{leading_zero, number_from, number_in};
 

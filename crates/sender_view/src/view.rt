@@ -58,7 +58,7 @@ pub fn view_of(node: &Node, sender: usize) -> SenderView
 }
 
 // Whether other incarnation, attempt and item are the node's own present ones.
-// Kept: other, attempt and item are fields of the message; a struct of them would be built for this one call.
+// Kept: other, attempt and item come from three kinds of `Message`, for the reason that is given at `storing::on_stored`.
 #[tactic(auto, unfolding(crate::specs::View::own_write_in, item::specs::Counter::same_incarnation, item::specs::Counter::same_attempt, item::specs::Item::same_item, item::specs::Item::tags_agree))]
 pub fn own_write(view: SenderView, other: Incarnation, attempt: Attempt, item: Item) -> bool
     ensures { result ≡ own_write_in view other attempt item }

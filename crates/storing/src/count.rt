@@ -10,8 +10,8 @@ use sender_view::{Decision, NodeChange, SenderView, count_sender, ok, own_write}
 
 // Stored: refused with 9, 10 or 11; otherwise the sender is counted: at f Confirming begins, and Confirm goes to exactly those
 // asked.
-// Kept: the view is of the node, the incarnation of the envelope, the rest of the message, which has them as fields of its
-// own; a struct of them would be built for this one call.
+// Kept: the view is of the node, the incarnation of the envelope, the rest of the message. A struct of that rest would stand in
+// three kinds of `Message` and be taken apart in each definition and law of them; document 01 lists the fields one by one.
 #[tactic(auto, unfolding(crate::specs::Decisions::stored_decision))]
 pub fn on_stored(
     view: SenderView,

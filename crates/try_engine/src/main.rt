@@ -5,7 +5,7 @@
 //   n, w, c, s: the node is set up, writes tag 65, crashes, or starts
 //   m: what the sender sent in its latest line reaches the node
 //   x: the node's row of node 2 takes index 7 with a tag of its own
-// Kept: no `impl Display`, since `Envelope` and `Answer` are of other crates; a digit of the script names a node.
+// Kept: no `impl Display`, since `Message`, `Envelope` and `Answer` are of other crates; a digit of the script names a node.
 #![tactic(auto)]
 
 ghost use Rattle.std.specs.Prelude.{◌<◌};
