@@ -11,21 +11,19 @@ use std::num::wrapping_add_usize;
 use store_access::{head, links, stride};
 
 // The last record of the chain from record `first`.
-// Kept: a loop with a `continue` where the guess was right. A `for`, or one method for the guess, was tried: the compiler reads
-// the link in its place, and the check of an empty store takes 1,492 ns for 1,349 (docs/PERFORMANCE.md).
+// Kept: beside `removing::before_from`, which stops at another test and gives something else where a chain has no end; a method
+// for both would take a closure for each. With one for the guess alone `store_check::chain::follow` is slower, as is said there.
 fn last_from(s: &[u8; store::LENGTH], first: usize) -> usize
     ensures { result ≡ last_from record_count (records_of s.now) first }
 {
     let mut i = first;
     let mut step = 1;
-    let mut left = store::RECORDS;
-    while 0 < left {
+    for turn in 0..store::RECORDS {
         let guess = wrapping_add_usize(i, step);
         let after = links::next(s, i);
         if after == 0 {
             return i;
         }
-        left -= 1;
         if after == guess {
             i = guess;
             continue;

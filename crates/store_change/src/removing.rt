@@ -9,15 +9,14 @@ use std::num::wrapping_add_usize;
 use store_access::{head, links, stride};
 
 // The record before record `r` on the chain from record `first`, 0 if there is none.
-// Kept: a loop with a `continue` where the guess was right, as in `putting::last_from`; 0 where there is none, as the definition
-// of a removal has it.
+// Kept: beside `putting::last_from`, for the reason that is given there; 0 where there is none, as the definition of a removal has
+// it.
 fn before_from(s: &[u8; store::LENGTH], r: usize, first: usize) -> usize
     ensures { result ≡ before_from record_count (records_of s.now) r first }
 {
     let mut i = first;
     let mut step = 1;
-    let mut left = store::RECORDS;
-    while 0 < left {
+    for turn in 0..store::RECORDS {
         if i == 0 {
             return 0;
         }
@@ -26,7 +25,6 @@ fn before_from(s: &[u8; store::LENGTH], r: usize, first: usize) -> usize
         if after == r {
             return i;
         }
-        left -= 1;
         if after == guess {
             i = guess;
             continue;
