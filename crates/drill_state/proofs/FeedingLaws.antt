@@ -9,7 +9,7 @@ use lib.Dec.{eqb, leb, ltb}
 use lib.ListN.{length, get_or, take, drop, set, replicate, length-append, length-take}
 use lib.Seq.{sets, length-sets, sets-eq, drop-cons, take_at, length-take-le}
 use borrow.Author.Tests.{eq-eqb, ne_eqb, leb-true, leb-false}
-use Rattle.item.specs.Tests.{by_cond}
+use Rattle.item.proofs.Tests.{by_cond}
 use Rattle.answers.specs.Output.{output_line, line_room}
 use Rattle.answers.proofs.Printing.{line_length}
 use Rattle.std.specs.Prelude.{Option}

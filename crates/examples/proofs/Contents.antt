@@ -10,7 +10,7 @@ use lib.Dec.{eqb}
 use lib.ListN.{length}
 use borrow.Author.Tests.{eq-eqb, ne_eqb}
 use Rattle.item.specs.Maxima.{valid_size}
-use Rattle.item.specs.Tests.{and_left, and_right}
+use Rattle.item.proofs.Tests.{and_left, and_right}
 use Rattle.item.specs.declared.Item.{Item}
 use Rattle.message.specs.Rows.{held_rows}
 use Rattle.message.specs.declared.Envelope.{Envelope}

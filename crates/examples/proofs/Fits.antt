@@ -9,7 +9,7 @@ use mathlib.Core.Logic.{◌≢◌}
 use lib.Dec.{eqb, ltb}
 use borrow.Author.Tests.{eqb-false, ltb-true, not-true}
 use Rattle.item.specs.Maxima.{tag_size, valid_size}
-use Rattle.item.specs.Tests.{and_left, and_right}
+use Rattle.item.proofs.Tests.{and_left, and_right}
 use Rattle.item.specs.declared.Item.{Item}
 use Rattle.message.specs.Rows.{held_rows}
 use Rattle.message.specs.declared.Envelope.{Envelope}

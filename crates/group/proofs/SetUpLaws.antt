@@ -9,7 +9,7 @@ use borrow.Author.Tests.{eq-eqb, ne_eqb, eqb-true}
 use lib.Dec.{eqb}
 use lib.ListN.{length}
 use Rattle.item.specs.Maxima.{valid_size}
-use Rattle.item.specs.Tests.{and_right}
+use Rattle.item.proofs.Tests.{and_right}
 use Rattle.record.specs.Layout.{record_size}
 use Rattle.store.specs.Records.{record_count, right_length, joined, on_records}
 use Rattle.store.proofs.Lent.{unchanged}

@@ -8,7 +8,7 @@ use borrow.Author.Tests.{ltb-true, ltb-false, lt-ltb, le-ltb, eqb-true}
 use Rattle.item.specs.Counter.{index_below, index_at_largest, next_index, same_incarnation, incarnation_at_largest, next_incarnation, same_attempt, attempt_at_largest, next_attempt}
 use Rattle.item.specs.Item.{tags_agree, ranks_below, same_item}
 use Rattle.item.specs.Row.{same_row}
-use Rattle.item.specs.Tests.{and_left, and_right}
+use Rattle.item.proofs.Tests.{and_left, and_right}
 use Rattle.item.specs.declared.counters.Attempt.{Attempt}
 use Rattle.item.specs.declared.counters.Incarnation.{Incarnation}
 use Rattle.item.specs.declared.counters.Index.{Index}

@@ -2,4 +2,3 @@ pub mod Counter
 pub mod Maxima
 pub mod Item
 pub mod Row
-pub mod Tests

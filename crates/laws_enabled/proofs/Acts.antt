@@ -12,7 +12,7 @@ use Rattle.store_laws.proofs.Message.{MessageTo, inbox_message, message_inbox}
 use Rattle.store_laws.proofs.Times.{stands_on, stands_where}
 use Rattle.endian.proofs.PartLaws.{by_order}
 use Rattle.item.specs.Maxima.{max_nodes, valid_size}
-use Rattle.item.specs.Tests.{by_cond}
+use Rattle.item.proofs.Tests.{by_cond}
 use Rattle.record.specs.Layout.{rows_of}
 use Rattle.message.specs.declared.Envelope.{Envelope}
 use Rattle.store.specs.Head.{group_size}

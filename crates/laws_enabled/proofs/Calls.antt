@@ -5,7 +5,7 @@ use mathlib.Core.Bool.{Bool, true, not, ◌&&◌, ◌||◌}
 use mathlib.Core.List.{List}
 use Rattle.item.specs.Counter.{attempt_at_largest, incarnation_at_largest}
 use Rattle.item.specs.Maxima.{max_nodes}
-use Rattle.item.specs.Tests.{by_cond}
+use Rattle.item.proofs.Tests.{by_cond}
 use Rattle.item.specs.declared.Tag.{Tag}
 use Rattle.protocol.specs.Answer.{ok}
 use Rattle.operations.specs.Operation.{carried_out}

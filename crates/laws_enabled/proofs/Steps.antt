@@ -7,7 +7,7 @@ use mathlib.Core.List.{List}
 use lib.Dec.{leb, ltb, eqb}
 use borrow.Author.Tests.{ltb-true, ltb-false, lt-leb, le-leb, eqb-true}
 use Rattle.item.specs.Maxima.{max_nodes}
-use Rattle.item.specs.Tests.{by_cond, and_right}
+use Rattle.item.proofs.Tests.{by_cond, and_right}
 use Rattle.message.specs.declared.Message.{Message}
 use Rattle.store.specs.Change.{count_outgoing}
 use Rattle.store.specs.Sound.{free_count}

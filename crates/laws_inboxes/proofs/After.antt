@@ -11,7 +11,7 @@ use Rattle.store_laws.specs.Lists.{held_on, free_list, inbox_list, times}
 use Rattle.store_laws.proofs.Held.{records_counted as Counted-of}
 use Rattle.store_laws.proofs.Message.{message_inbox}
 use Rattle.store_laws.proofs.Sound.{Sound, store_sound}
-use Rattle.item.specs.Tests.{by_cond}
+use Rattle.item.proofs.Tests.{by_cond}
 use Rattle.item.specs.declared.Item.{Item}
 use Rattle.record.specs.Layout.{rows_of, held_rows}
 use Rattle.record.specs.Record.{record_bytes}

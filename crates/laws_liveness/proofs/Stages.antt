@@ -10,7 +10,7 @@ use Rattle.item.specs.Counter.{same_incarnation, same_attempt, earlier}
 use Rattle.item.specs.Item.{ranks_below, same_item, tags_agree}
 use Rattle.item.specs.Maxima.{max_nodes}
 use Rattle.item.specs.Row.{zero_row}
-use Rattle.item.specs.Tests.{by_cond, and_both}
+use Rattle.item.proofs.Tests.{by_cond, and_both}
 use Rattle.item.specs.declared.counters.Attempt.{Attempt}
 use Rattle.item.specs.declared.counters.Incarnation.{Incarnation}
 use Rattle.item.specs.declared.Item.{Item}

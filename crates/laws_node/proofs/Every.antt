@@ -6,7 +6,7 @@ use mathlib.Core.Path.{◌≡◌, refl}
 use mathlib.Core.Bool.{Bool, true}
 use mathlib.Core.List.{List, [], ◌∷◌}
 use lib.ListN.{length, set, replicate}
-use Rattle.item.specs.Tests.{and_left, and_right, and_both}
+use Rattle.item.proofs.Tests.{and_left, and_right, and_both}
 use Rattle.protocol.specs.Node.{count_peers}
 use Rattle.protocol.specs.Sound.{every_from}
 use Rattle.item.specs.declared.counters.Incarnation.{Incarnation}

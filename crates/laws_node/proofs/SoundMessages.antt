@@ -11,7 +11,7 @@ use lib.ListN.{length, get_or, set}
 use borrow.Author.Tests.{ltb-true, ltb-false, eq-eqb, ne_eqb}
 use Rattle.item.specs.Item.{zero_item}
 use Rattle.item.specs.Maxima.{max_nodes}
-use Rattle.item.specs.Tests.{by_cond, and_left, and_right, and_both}
+use Rattle.item.proofs.Tests.{by_cond, and_left, and_right, and_both}
 use Rattle.item.specs.declared.counters.Attempt.{Attempt}
 use Rattle.item.specs.declared.counters.Incarnation.{Incarnation}
 use Rattle.item.specs.declared.Item.{Item}

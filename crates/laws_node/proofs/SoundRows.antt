@@ -11,7 +11,7 @@ use Rattle.item.specs.Counter.{same_incarnation, same_attempt, index_below}
 use Rattle.item.specs.Item.{zero_item, ranks_below, same_item, tags_agree}
 use Rattle.item.proofs.Laws.{same_row_lem}
 use Rattle.item.specs.Row.{zero_row, same_row}
-use Rattle.item.specs.Tests.{by_cond, and_left, and_right, and_both}
+use Rattle.item.proofs.Tests.{by_cond, and_left, and_right, and_both}
 use Rattle.item.specs.declared.counters.Attempt.{Attempt}
 use Rattle.item.specs.declared.counters.Incarnation.{Incarnation}
 use Rattle.item.specs.declared.Item.{Item}

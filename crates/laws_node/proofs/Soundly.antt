@@ -12,7 +12,7 @@ use borrow.Author.Tests.{lt-ltb, eqb-true, eq-eqb, ne_eqb}
 use Rattle.item.specs.Counter.{same_attempt}
 use Rattle.item.specs.Maxima.{max_nodes}
 use Rattle.item.specs.Row.{zero_row}
-use Rattle.item.specs.Tests.{and_left, and_right, and_both}
+use Rattle.item.proofs.Tests.{and_left, and_right, and_both}
 use Rattle.item.specs.declared.counters.Attempt.{Attempt}
 use Rattle.item.specs.declared.counters.Incarnation.{Incarnation}
 use Rattle.item.specs.declared.Item.{Item}

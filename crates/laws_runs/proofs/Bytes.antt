@@ -9,7 +9,7 @@ use Rattle.endian.proofs.NumberLaws.{bytes_take, bytes_drop}
 use Rattle.endian.specs.Part.{with_part}
 use Rattle.endian.specs.Zero.{zeros}
 use Rattle.item.specs.Maxima.{tag_size}
-use Rattle.item.specs.Tests.{by_cond}
+use Rattle.item.proofs.Tests.{by_cond}
 use Rattle.item.specs.declared.Item.{Item}
 use Rattle.record.specs.declared.kinds.Fields.{Fields}
 use Rattle.message.specs.declared.Envelope.{Envelope}

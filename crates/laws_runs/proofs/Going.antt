@@ -8,14 +8,14 @@ use mathlib.Core.Bool.{Bool, true, false}
 use mathlib.Core.List.{List, [], ◌∷◌, Memᴰ}
 use lib.Dec.{eqb, ltb}
 use borrow.Author.Tests.{eqb-false, not-true}
-use Rattle.item.specs.Tests.{and_left, and_right}
+use Rattle.item.proofs.Tests.{and_left, and_right}
 use Rattle.item.specs.declared.Tag.{Tag}
 use Rattle.message.specs.declared.Envelope.{Envelope}
 use Rattle.message.specs.declared.Message.{Message}
 use Rattle.message.specs.declared.Message.TheVariants as message
 use Rattle.std.specs.Prelude.{Option, Some}
 use Rattle.item.specs.declared.counters.Incarnation.{Incarnation}
-use Rattle.returns.specs.View.{clash}
+use Rattle.returns.proofs.ViewLaws.{clash}
 use Rattle.protocol.proofs.Sending.{each_nothing, each_other, each_back, each_asked}
 use Rattle.protocol.specs.Answer.{ok, refused}
 use Rattle.protocol.specs.Node.{peer_of}

@@ -11,7 +11,7 @@ use lib.Dec.{ltb}
 use lib.ListN.{length, set, length-set}
 use borrow.Author.Tests.{eq-eqb, ltb-true, ltb-false}
 use Rattle.item.specs.Maxima.{max_nodes, tag_size, valid_size}
-use Rattle.item.specs.Tests.{by_cond, and_left, and_right, and_both}
+use Rattle.item.proofs.Tests.{by_cond, and_left, and_right, and_both}
 use Rattle.item.specs.declared.Tag.{Tag}
 use Rattle.record.specs.Layout.{rows_of, held_rows}
 use Rattle.message.specs.declared.Envelope.{Envelope}

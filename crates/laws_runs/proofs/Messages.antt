@@ -17,7 +17,7 @@ use Rattle.endian.specs.Zero.{all_zero}
 use Rattle.item.specs.Counter.{same_incarnation}
 use Rattle.item.specs.Item.{zero_item}
 use Rattle.item.specs.Maxima.{max_nodes, tag_size}
-use Rattle.item.specs.Tests.{by_cond, and_left, and_right}
+use Rattle.item.proofs.Tests.{by_cond, and_left, and_right}
 use Rattle.item.specs.declared.Item.{Item}
 use Rattle.record.specs.declared.kinds.Fields.{Fields}
 use Rattle.record.specs.Kind.{store_kind, stored_kind, confirm_kind, confirmed_kind, fetch_kind, table_kind, no_incarnation, no_write, message_of, rows_held, other_of, attempt_of, item_of}

@@ -9,9 +9,12 @@ use Rattle.item.specs.declared.Item.{Item}
 use Rattle.item.specs.declared.Tag.{Tag}
 use Rattle.returns.specs.Change.{SameWrite, Finishes, Change, at_write, at_retry, at_crash, at_start, at_store, at_stored, at_last_stored, at_confirmed, at_last_confirmed, at_table, at_last_table, elsewhere, unchanged, Next, same, did}
 use Rattle.returns.specs.History.{History, Note, quiet, begins, settles, returns}
-use Rattle.returns.specs.Replace.{replaced, replaced_same, replaced_other}
-use Rattle.returns.specs.Invariant.{Own, writing_live}
-use Rattle.returns.specs.View.{ViewPhase, down, fetching, returning, up, idle, confirming, ViewNode, View, live, clash}
+use Rattle.returns.specs.Replace.{replaced}
+use Rattle.returns.specs.Invariant.{Own}
+use Rattle.returns.specs.View.{ViewPhase, down, fetching, returning, up, idle, confirming, ViewNode, View, live}
+use Rattle.returns.proofs.ReplaceLaws.{replaced_same, replaced_other}
+use Rattle.returns.proofs.ViewLaws.{clash}
+use Rattle.returns.proofs.NodeSteps.{writing_live}
 use Rattle.protocol.proofs.Place.{by_place}
 
 -- v is Up and writes

@@ -8,7 +8,7 @@ use mathlib.Core.List.Memᴰ
 use mathlib.Core.List.{List, [], ◌∷◌, Memᴰ}
 use lib.Dec.{leb, ltb}
 use borrow.Author.Tests.{leb-true}
-use Rattle.item.specs.Tests.{by_cond, and_left, and_right}
+use Rattle.item.proofs.Tests.{by_cond, and_left, and_right}
 use Rattle.record.specs.Layout.{rows_of}
 use Rattle.store.specs.Change.{count_outgoing}
 use Rattle.store.specs.Head.{group_size}

@@ -16,7 +16,8 @@ use Rattle.item.specs.declared.Item.{Item}
 use Rattle.item.specs.declared.Tag.{Tag}
 use Rattle.returns.specs.History.{Note, quiet, begins, settles, returns, History, after_note, May}
 use Rattle.returns.specs.Invariant.{Own}
-use Rattle.returns.specs.View.{up, idle, ViewNode, clash}
+use Rattle.returns.specs.View.{up, idle, ViewNode}
+use Rattle.returns.proofs.ViewLaws.{clash}
 use Rattle.protocol.specs.Answer.{is_refused, ok}
 use Rattle.protocol.specs.Call.{Call, is_to, is_ok, last_after, last_from, last_item}
 use Rattle.protocol.specs.Claim.{OfNetworkRuns}

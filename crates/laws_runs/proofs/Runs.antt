@@ -10,7 +10,7 @@ use lib.ListN.{length}
 use borrow.Author.Tests.{eq-eqb}
 use Rattle.item.specs.Maxima.{max_nodes, valid_size}
 use Rattle.item.specs.Row.{zero_row}
-use Rattle.item.specs.Tests.{and_both}
+use Rattle.item.proofs.Tests.{and_both}
 use Rattle.store.specs.Change.{empty_records}
 use Rattle.store.proofs.Joined.{records_joined}
 use Rattle.store.proofs.Locality.{length_empty, empty_sized}

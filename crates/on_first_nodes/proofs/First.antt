@@ -7,7 +7,7 @@ use lib.Dec.{ltb}
 use lib.ListN.{length, take, drop, drop_of_length-le}
 use lib.Seq.{take_all}
 use borrow.Author.Tests.{ltb-false}
-use Rattle.item.specs.Tests.{by_cond}
+use Rattle.item.proofs.Tests.{by_cond}
 use Rattle.operations.specs.Operation.{set_up, perform}
 use Rattle.protocol.specs.declared.Answer.{Answer}
 use Rattle.protocol.specs.declared.Event.{Event}

@@ -14,7 +14,7 @@ use Rattle.item.specs.Counter.{largest, index_at_largest, next_index, incarnatio
 use Rattle.item.specs.Item.{zero_item, ranks_below, same_item}
 use Rattle.item.specs.Maxima.{max_nodes, tag_size}
 use Rattle.item.specs.Row.{zero_row}
-use Rattle.item.specs.Tests.{by_cond}
+use Rattle.item.proofs.Tests.{by_cond}
 use Rattle.item.specs.declared.counters.Attempt.{Attempt}
 use Rattle.item.specs.declared.counters.Incarnation.{Incarnation}
 use Rattle.item.specs.declared.counters.Index.{Index}

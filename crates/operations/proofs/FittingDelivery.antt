@@ -8,7 +8,7 @@ use mathlib.Core.List.{List}
 use lib.ListN.{get_or}
 use Rattle.item.specs.Item.{zero_item}
 use Rattle.item.specs.Row.{zero_row}
-use Rattle.item.specs.Tests.{by_cond}
+use Rattle.item.proofs.Tests.{by_cond}
 use Rattle.item.specs.declared.counters.Attempt.{Attempt}
 use Rattle.item.specs.declared.counters.Incarnation.{Incarnation}
 use Rattle.item.specs.declared.Item.{Item}

@@ -8,7 +8,7 @@ use lib.Dec.{eqb}
 use borrow.Author.Tests.{eqb-false}
 use Rattle.message.specs.declared.Envelope.{Envelope}
 use Rattle.record.specs.Record.{read_record}
-use Rattle.returns.specs.View.{clash}
+use Rattle.returns.proofs.ViewLaws.{clash}
 use Rattle.store.specs.Head.{group_size}
 use Rattle.store.specs.Records.{record_in}
 use Rattle.store.specs.Sound.{message_in}

@@ -9,7 +9,7 @@ use lib.Dec.{ltb}
 use lib.ListN.{length}
 use borrow.Author.Tests.{ltb-true}
 use Rattle.item.specs.Maxima.{max_nodes}
-use Rattle.item.specs.Tests.{by_cond}
+use Rattle.item.proofs.Tests.{by_cond}
 use Rattle.item.specs.declared.Item.{Item}
 use Rattle.record.specs.Layout.{rows_of}
 use Rattle.record.specs.Record.{read_record}

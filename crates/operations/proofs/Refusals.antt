@@ -9,7 +9,7 @@ use lib.Dec.{ltb, eqb}
 use lib.ListN.{length}
 use borrow.Author.Tests.{ltb-true}
 use Rattle.item.specs.Maxima.{max_nodes, valid_size}
-use Rattle.item.specs.Tests.{by_cond}
+use Rattle.item.proofs.Tests.{by_cond}
 use Rattle.record.specs.Layout.{rows_of}
 use Rattle.store.specs.Records.{right_length, records_of, record_in}
 use Rattle.store.specs.Head.{group_size}

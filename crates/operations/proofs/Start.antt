@@ -7,8 +7,8 @@ use mathlib.Core.List.{List, []}
 use lib.Dec.{eqb}
 use lib.ListN.{length}
 use Rattle.item.specs.Maxima.{valid_size}
-use Rattle.item.specs.Tests.{by_cond, and_left}
-use Rattle.returns.specs.View.{clash}
+use Rattle.item.proofs.Tests.{by_cond, and_left}
+use Rattle.returns.proofs.ViewLaws.{clash}
 use Rattle.store.specs.Change.{empty_records}
 use Rattle.store.specs.Head.{group_size}
 use Rattle.store.proofs.Joined.{records_joined, joined_right}

@@ -4,7 +4,7 @@ use Prim.Native.Nat.{ℕ}
 use mathlib.Core.Path.{◌≡◌, refl, sym, ap, subst, ◌∙◌}
 use mathlib.Core.List.{List, [], ◌∷◌, ◌++◌, append_assoc, append-nil}
 use Rattle.item.specs.declared.Item.{Item}
-use Rattle.returns.specs.View.{clash}
+use Rattle.returns.proofs.ViewLaws.{clash}
 use Rattle.protocol.specs.Call.{Call, last_after, last_from, begun_at, begun_from}
 use Rattle.protocol.specs.Network.{Network, Next, Run, end, then}
 

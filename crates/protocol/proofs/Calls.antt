@@ -10,7 +10,7 @@ use borrow.Author.Tests.{eqb-true, eqb-false}
 use Rattle.item.specs.Counter.{incarnation_at_largest, attempt_at_largest, index_at_largest, next_index}
 use Rattle.item.specs.Item.{item_above}
 use Rattle.item.proofs.Laws.{next_index_lem, next_incarnation_lem, next_attempt_lem}
-use Rattle.item.specs.Tests.{by_cond}
+use Rattle.item.proofs.Tests.{by_cond}
 use Rattle.item.specs.declared.Item.{Item}
 use Rattle.item.specs.declared.Row.{Row}
 use Rattle.item.specs.declared.Tag.{Tag}

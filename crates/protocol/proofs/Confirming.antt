@@ -8,14 +8,15 @@ use mathlib.Core.Bool.{true, ◌&&◌, false≢true}
 use mathlib.Core.List.{List}
 use borrow.Author.Tests.{ltb-false, eq-eqb, ne_eqb}
 use Rattle.item.proofs.Laws.{same_incarnation_lem}
-use Rattle.item.specs.Tests.{by_cond, and_left, and_right}
+use Rattle.item.proofs.Tests.{by_cond, and_left, and_right}
 use Rattle.item.specs.declared.counters.Attempt.{Attempt}
 use Rattle.item.specs.declared.counters.Incarnation.{Incarnation}
 use Rattle.item.specs.declared.Item.{Item}
 use Rattle.message.specs.declared.Message.TheVariants as message
 use Rattle.returns.specs.Change.{Change, CountsConfirmed, Finishes, at_confirmed, at_last_confirmed, unchanged}
 use Rattle.returns.specs.History.{Note, quiet}
-use Rattle.returns.specs.View.{View, ViewNode, confirmed_by, Sent, Each, clash}
+use Rattle.returns.specs.View.{View, ViewNode, confirmed_by, Sent, Each}
+use Rattle.returns.proofs.ViewLaws.{clash}
 use Rattle.protocol.specs.Answer.{ok}
 use Rattle.protocol.specs.Node.{half, row_of, own_item, peer_of, count_peers, with_counted, write_ended}
 use Rattle.protocol.specs.Phase.{is_confirming, is_returning}

@@ -9,10 +9,12 @@ use mathlib.Core.List.{List, [], ◌∷◌}
 use lib.ListN.{length, get_or, set, replicate, length-set, get_or-eq_default}
 use borrow.Author.Tests.{ltb-true}
 use Rattle.item.specs.Maxima.{max_nodes}
-use Rattle.item.specs.Tests.{and_left, and_right}
+use Rattle.item.proofs.Tests.{and_left, and_right}
 use Rattle.item.specs.declared.counters.Incarnation.{Incarnation}
-use Rattle.returns.specs.Majority.{bit, count, count_first, count_beyond}
-use Rattle.returns.specs.Replace.{replaced, replaced_other, seen_set}
+use Rattle.returns.specs.Majority.{bit, count}
+use Rattle.returns.specs.Replace.{replaced}
+use Rattle.returns.proofs.ReplaceLaws.{replaced_other, seen_set}
+use Rattle.returns.proofs.MajorityLaws.{count_first, count_beyond}
 use Rattle.protocol.specs.Node.{no_peers, peer_of, count_peers}
 use Rattle.protocol.specs.Sound.{every_from, peer_sound, peers_sound}
 use Rattle.std.specs.Prelude.{Option, Some, None, is_some, unwrap_or}

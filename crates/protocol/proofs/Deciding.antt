@@ -8,7 +8,7 @@ use lib.Dec.{eqb}
 use borrow.Author.Tests.{eqb-true}
 use Rattle.item.specs.Counter.{attempt_at_largest, incarnation_at_largest, earlier}
 use Rattle.item.specs.Item.{ranks_below, same_item}
-use Rattle.item.specs.Tests.{by_cond, and_left, and_right}
+use Rattle.item.proofs.Tests.{by_cond, and_left, and_right}
 use Rattle.item.specs.declared.counters.Attempt.{Attempt}
 use Rattle.item.specs.declared.counters.Incarnation.{Incarnation}
 use Rattle.item.specs.declared.Item.{Item}

@@ -22,7 +22,8 @@ use Rattle.returns.specs.History.{quiet}
 use Rattle.returns.specs.Majority.{count, group_size}
 use Rattle.returns.specs.Merge.{Merged}
 use Rattle.returns.specs.Replace.{replaced}
-use Rattle.returns.specs.View.{View, ViewNode, table_from, Sent, Each, each_nil, each_cons}
+use Rattle.returns.specs.View.{View, ViewNode, table_from, Sent, Each}
+use Rattle.returns.proofs.ViewLaws.{each_nil, each_cons}
 use Rattle.protocol.specs.Answer.{ok}
 use Rattle.protocol.specs.Fetching.{on_fetch, none_counted, with_table, has_conflict, stopped, written_back, on_table}
 use Rattle.protocol.specs.Merge.{merge_row}

@@ -13,11 +13,11 @@ use lib.ListN.{length, get_or, set, length-set}
 use lib.Seq.{get_or-set_same, get_or-set_other}
 use borrow.Author.Tests.{eqb-true, eqb-false}
 use Rattle.item.specs.Maxima.{max_nodes}
-use Rattle.item.specs.Tests.{by_cond}
+use Rattle.item.proofs.Tests.{by_cond}
 use Rattle.message.specs.declared.Message.{Message}
 use Rattle.message.specs.declared.Message.TheVariants as message
 use Rattle.item.specs.declared.counters.Incarnation.{Incarnation}
-use Rattle.returns.specs.View.{clash}
+use Rattle.returns.proofs.ViewLaws.{clash}
 use Rattle.protocol.specs.Network.{Packet, Network, packet_of, packets_of, network_after, Decides, writes, retries, crashes, starts, delivers, Next, host_refuses, node_refuses, drops, acts, fresh_network}
 use Rattle.protocol.specs.Node.{fresh_node, peer_of, row_items}
 use Rattle.protocol.specs.Outgoing.{message_to, outgoing}

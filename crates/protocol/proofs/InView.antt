@@ -9,7 +9,7 @@ use mathlib.Core.List.{List}
 use lib.ListN.{length}
 use borrow.Author.Tests.{eqb-true, leb-true}
 use Rattle.item.specs.Maxima.{max_nodes, valid_size}
-use Rattle.item.specs.Tests.{and_left, and_right}
+use Rattle.item.proofs.Tests.{and_left, and_right}
 use Rattle.item.specs.declared.Item.{Item}
 use Rattle.message.specs.declared.Envelope.{Envelope}
 use Rattle.returns.specs.Majority.{group_size}

@@ -8,7 +8,7 @@ use mathlib.Core.List.{List}
 use borrow.Author.Tests.{eqb-true}
 use Rattle.item.specs.declared.Item.{Item}
 use Rattle.returns.specs.History.{returns, May}
-use Rattle.returns.specs.View.{clash}
+use Rattle.returns.proofs.ViewLaws.{clash}
 use Rattle.protocol.specs.Call.{Call, is_to}
 use Rattle.protocol.specs.Claim.{ReturnsWith, AsItLastStood, ReturnsAsItStood, OfNetworkRuns, EveryNetworkReturn}
 use Rattle.protocol.specs.Network.{Network, Decides, writes, retries, crashes, starts, delivers, Next, host_refuses, node_refuses, drops, acts}

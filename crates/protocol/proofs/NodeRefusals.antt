@@ -6,7 +6,7 @@ use mathlib.Core.List.Memᴰ
 use mathlib.Core.List.{List, [], ◌∷◌, Memᴰ}
 use lib.Dec.{eqb}
 use borrow.Author.Tests.{eq-eqb}
-use Rattle.item.specs.Tests.{by_cond}
+use Rattle.item.proofs.Tests.{by_cond}
 use Rattle.message.specs.declared.Envelope.{Envelope}
 use Rattle.protocol.specs.Answer.{refusal_number, by_decision}
 use Rattle.protocol.specs.Deliver.{deliver_step}

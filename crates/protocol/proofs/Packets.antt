@@ -17,7 +17,8 @@ use Rattle.message.specs.declared.Message.{Message}
 use Rattle.message.specs.declared.Message.TheVariants as message
 use Rattle.message.specs.declared.Envelope.{Envelope}
 use Rattle.std.specs.Prelude.{Option, Some, None}
-use Rattle.returns.specs.View.{ViewMessage, Each, each_nil, each_append, clash}
+use Rattle.returns.specs.View.{ViewMessage, Each}
+use Rattle.returns.proofs.ViewLaws.{each_nil, each_append, clash}
 use Rattle.protocol.specs.Network.{Packet, packet_of, packets_of}
 use Rattle.protocol.specs.Node.{row_items}
 use Rattle.protocol.specs.declared.Node.{Node}

@@ -1,7 +1,8 @@
 -- The tests on a node's phase, read in x's view: which phase and stage the view shows, and that it is live. Each by cases.
 use mathlib.Core.Path.{◌≡◌, refl, sym}
 use mathlib.Core.Bool.{true, false, false≢true}
-use Rattle.returns.specs.View.{returning, up, idle, storing, confirming, live, clash}
+use Rattle.returns.specs.View.{returning, up, idle, storing, confirming, live}
+use Rattle.returns.proofs.ViewLaws.{clash}
 use Rattle.protocol.specs.Phase.{is_down, is_fetching, is_up, is_idle_stage, is_storing_stage, is_confirming_stage, is_up_idle, is_idle, is_storing, is_confirming, is_returning, at_stage}
 use Rattle.protocol.specs.declared.Phase.{Phase}
 use Rattle.protocol.specs.declared.Phase.TheVariants.{Down, Fetching, Returning, Up}

@@ -12,8 +12,8 @@ use Rattle.item.specs.Maxima.{max_nodes, valid_size}
 use Rattle.item.specs.declared.Item.{Item}
 use Rattle.returns.specs.History.{History, at_set_up, after_note, May}
 use Rattle.returns.specs.Invariant.{Invariant}
+use Rattle.returns.proofs.ViewLaws.{clash}
 use Rattle.returns.proofs.Returns.{SetUp, call_kept, invariant_set_up}
-use Rattle.returns.specs.View.{clash}
 use Rattle.protocol.specs.Call.{Call, last_after, last_from, last_item, begun_at, begun_from, begun}
 use Rattle.protocol.specs.Network.{Network, Next, Run, fresh_network}
 use Rattle.protocol.specs.Node.{half, blank_node, fresh_node, write_ended}

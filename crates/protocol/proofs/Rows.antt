@@ -17,12 +17,13 @@ use Rattle.item.specs.Item.{zero_item, ranks_below, same_item}
 use Rattle.item.proofs.Laws.{same_item_lem}
 use Rattle.item.specs.Maxima.{max_nodes}
 use Rattle.item.specs.Row.{zero_row}
-use Rattle.item.specs.Tests.{by_cond}
+use Rattle.item.proofs.Tests.{by_cond}
 use Rattle.item.specs.declared.counters.Attempt.{Attempt}
 use Rattle.item.specs.declared.Item.{Item}
 use Rattle.item.specs.declared.Row.{Row}
-use Rattle.returns.specs.Merge.{Merged, merged_first, merged_higher, merged_lower, merged_level}
+use Rattle.returns.specs.Merge.{Merged}
 use Rattle.returns.specs.View.{ViewNode}
+use Rattle.returns.proofs.MergeLaws.{merged_first, merged_higher, merged_lower, merged_level}
 use Rattle.protocol.specs.Merge.{merge_row, merge_rows, lowest_marked}
 use Rattle.protocol.specs.Node.{row_of, own_item, stored_row, zero_rows, storing_begun, with_row}
 use Rattle.protocol.specs.declared.Node.{Node}

@@ -15,13 +15,14 @@ use Rattle.item.specs.declared.counters.Attempt.{Attempt}
 use Rattle.item.specs.declared.counters.Incarnation.{Incarnation}
 use Rattle.message.specs.declared.Message.TheVariants as message
 use Rattle.item.specs.Maxima.{max_nodes}
-use Rattle.item.specs.Tests.{by_cond}
+use Rattle.item.proofs.Tests.{by_cond}
 use Rattle.message.specs.declared.Envelope.{Envelope}
 use Rattle.message.specs.declared.Message.{Message}
 use Rattle.std.specs.Prelude.{Option, Some, None, option_map}
 use Rattle.returns.specs.Change.{Change, MaySend}
 use Rattle.returns.specs.History.{Note}
-use Rattle.returns.specs.View.{confirming, ViewMessage, View, Each, each_nil, each_cons, clash}
+use Rattle.returns.specs.View.{confirming, ViewMessage, View, Each}
+use Rattle.returns.proofs.ViewLaws.{each_nil, each_cons, clash}
 use Rattle.protocol.specs.Answer.{ok}
 use Rattle.protocol.specs.Node.{own_item, row_of, peer_of, row_items}
 use Rattle.protocol.specs.Outgoing.{message_to, envelope_to, outgoing_to, outgoing_from, outgoing}

@@ -7,10 +7,11 @@ use mathlib.Core.List.{List}
 use lib.ListN.{set}
 use lib.Seq.{get_or-set_same, get_or-set_other}
 use Rattle.item.specs.Maxima.{max_nodes}
-use Rattle.returns.specs.Change.{Change, MaySend, same, did_at}
+use Rattle.returns.specs.Change.{Change, MaySend, same}
 use Rattle.returns.specs.Change as relation
 use Rattle.returns.specs.History.{Note, quiet}
 use Rattle.returns.specs.View.{ViewNode, ViewMessage, View, Each}
+use Rattle.returns.proofs.ChangeLaws.{did_at}
 use Rattle.protocol.specs.Network.{Packet, Network, packets_of, network_after, Decides, writes, retries, crashes, starts, delivers, Next, host_refuses, node_refuses, drops, acts}
 use Rattle.protocol.specs.Answer.{is_refused}
 use Rattle.protocol.specs.Outgoing.{outgoing}

@@ -9,7 +9,7 @@ use mathlib.Core.List.{List}
 use lib.ListN.{length}
 use Rattle.item.specs.Item.{ranks_below, same_item}
 use Rattle.item.proofs.Laws.{same_incarnation_lem, same_attempt_lem, same_item_lem}
-use Rattle.item.specs.Tests.{and_left, and_right}
+use Rattle.item.proofs.Tests.{and_left, and_right}
 use Rattle.item.specs.declared.counters.Attempt.{Attempt}
 use Rattle.item.specs.declared.counters.Incarnation.{Incarnation}
 use Rattle.item.specs.declared.Item.{Item}

@@ -8,7 +8,7 @@ use mathlib.Core.List.{List, [], ◌∷◌}
 use lib.Dec.{eqb}
 use lib.ListN.{length, get_or}
 use borrow.Author.Tests.{eqb-true}
-use Rattle.item.specs.Tests.{and_left, and_right}
+use Rattle.item.proofs.Tests.{and_left, and_right}
 use Rattle.protocol.specs.Sound.{every_from, sound_node}
 use Rattle.protocol.specs.Table.{no_node, node_at, sound_table}
 use Rattle.protocol.specs.declared.Node.{Node}

@@ -11,7 +11,7 @@ use Rattle.item.specs.Item.{item_above}
 use Rattle.item.specs.declared.Item.{Item}
 use Rattle.item.specs.declared.Tag.{Tag}
 use Rattle.returns.specs.History.{Note, quiet, begins, settles, returns, History, after_note}
-use Rattle.returns.specs.View.{clash}
+use Rattle.returns.proofs.ViewLaws.{clash}
 use Rattle.protocol.specs.Answer.{is_refused}
 use Rattle.protocol.specs.Claim.{ReturnsWith}
 use Rattle.protocol.specs.Network.{Network, Decides, writes, retries, crashes, starts, delivers, Next, host_refuses, node_refuses, drops, acts}

@@ -13,7 +13,7 @@ use lib.Seq.{drop_at, drop-cons, drop-nil, drop-drop}
 use Rattle.item.specs.Maxima.{max_nodes, tag_size}
 use Rattle.item.specs.Counter.{same_incarnation, same_attempt}
 use Rattle.item.specs.Item.{zero_item, same_item, tags_agree}
-use Rattle.item.specs.Tests.{by_cond}
+use Rattle.item.proofs.Tests.{by_cond}
 use Rattle.item.specs.declared.Item.{Item}
 use Rattle.message.specs.declared.Message.{Message}
 use Rattle.message.specs.declared.Message.TheVariants.{Store, Stored, Confirm, Confirmed, Fetch, Table}

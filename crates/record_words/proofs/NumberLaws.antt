@@ -11,7 +11,7 @@ use lib.Seq.{length-take-le, take_all}
 use borrow.Author.Tests.{eqb-true, eq-eqb, ltb-true, lt-ltb}
 use Rattle.item.specs.Maxima.{max_nodes}
 use Rattle.item.specs.Item.{zero_item}
-use Rattle.item.specs.Tests.{and_both}
+use Rattle.item.proofs.Tests.{and_both}
 use Rattle.item.specs.declared.Item.{Item}
 use Rattle.endian.specs.Part.{with_part}
 use Rattle.endian.proofs.PartLaws.{sets_is, with_joined}

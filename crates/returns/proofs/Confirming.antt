@@ -7,14 +7,18 @@ use mathlib.Core.Bool.{Bool, true, false, false≢true}
 use mathlib.Core.List.Memᴰ
 use mathlib.Core.List.{List, ◌++◌, Memᴰ}
 use Rattle.item.specs.declared.Item.{Item}
-use Rattle.returns.specs.Replace.{replaced, replaced_same, replaced_other, replaced_each}
-use Rattle.returns.specs.Majority.{bit, count, group_size, count_replaced}
-use Rattle.returns.specs.Rank.{above_refl}
+use Rattle.returns.specs.Replace.{replaced}
+use Rattle.returns.specs.Majority.{bit, count, group_size}
 use Rattle.returns.specs.History.{Note, History, after_note}
-use Rattle.returns.specs.View.{up, confirming, ViewNode, ViewMessage, confirmed_by, View, live, put, Sent, Each, clash}
+use Rattle.returns.specs.View.{up, confirming, ViewNode, ViewMessage, confirmed_by, View, live, put, Sent, Each}
 use Rattle.returns.specs.Change.{Present, CountsStored, CountsConfirmed, SameWrite, MaySend, Change, at_write, at_retry, at_crash, at_start, at_store, at_stored, at_last_stored, at_confirmed, at_last_confirmed, at_table, at_last_table, elsewhere, unchanged}
-use Rattle.returns.specs.Quorum.{Holds, KeepsHeld, holds_live, holds_down, live_not_fetching}
+use Rattle.returns.specs.Quorum.{Holds, KeepsHeld}
 use Rattle.returns.specs.Invariant.{DownOrHas, Answered, HasConfirmed, MayConfirm, Asked, Quorum, Invariant}
+use Rattle.returns.proofs.ReplaceLaws.{replaced_same, replaced_other, replaced_each}
+use Rattle.returns.proofs.MajorityLaws.{count_replaced}
+use Rattle.returns.proofs.RankLaws.{above_refl}
+use Rattle.returns.proofs.ViewLaws.{clash, live_not_fetching}
+use Rattle.returns.proofs.QuorumLaws.{holds_live, holds_down}
 use Rattle.returns.proofs.NodeSteps.{Forward, storing_live}
 use Rattle.returns.proofs.Items.{Tells, tells_nothing, tells_begun, tells_finished, finished_is}
 use Rattle.returns.proofs.Own.{of_x, answered_more}

@@ -9,13 +9,16 @@ use mathlib.Core.List.Memᴰ
 use Rattle.item.specs.declared.Item.{Item}
 use Rattle.item.specs.declared.Tag.{Tag}
 use Rattle.item.specs.Item.{zero_item, item_above}
-use Rattle.returns.specs.Replace.{replaced, replaced_each}
+use Rattle.returns.specs.Replace.{replaced}
 use Rattle.returns.specs.Majority.{count, group_size}
-use Rattle.returns.specs.Rank.{Above, above_higher, above_index, above_cases}
+use Rattle.returns.specs.Rank.{Above}
 use Rattle.returns.specs.History.{Note, quiet, begins, settles, returns, History, after_note, May}
-use Rattle.returns.specs.View.{ViewPhase, down, fetching, returning, up, idle, ViewNode, View, live, clash}
+use Rattle.returns.specs.View.{ViewPhase, down, fetching, returning, up, idle, ViewNode, View, live}
 use Rattle.returns.specs.Change.{CountsConfirmed, Finishes, Change, at_write, at_retry, at_crash, at_start, at_store, at_stored, at_last_stored, at_confirmed, at_last_confirmed, at_table, at_last_table, elsewhere, unchanged}
 use Rattle.returns.specs.Invariant.{Known, Invariant}
+use Rattle.returns.proofs.ReplaceLaws.{replaced_each}
+use Rattle.returns.proofs.RankLaws.{above_higher, above_index, above_cases}
+use Rattle.returns.proofs.ViewLaws.{clash}
 use Rattle.returns.proofs.NodeSteps.{confirming_live}
 
 -- the three kinds of note, with what is known of the change that tells it

@@ -1,3 +1,10 @@
+pub mod ReplaceLaws
+pub mod MajorityLaws
+pub mod RankLaws
+pub mod ViewLaws
+pub mod MergeLaws
+pub mod ChangeLaws
+pub mod QuorumLaws
 pub mod NodeSteps
 pub mod Items
 pub mod Own

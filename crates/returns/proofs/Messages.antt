@@ -5,14 +5,15 @@ use mathlib.Core.Path.{◌≡◌, sym}
 use mathlib.Core.Logic.{inr}
 use mathlib.Core.List.{List, ◌++◌}
 use Rattle.item.specs.declared.Item.{Item}
-use Rattle.returns.specs.Replace.{replaced, replaced_same}
-use Rattle.returns.specs.Rank.{above_refl}
+use Rattle.returns.specs.Replace.{replaced}
 use Rattle.returns.specs.History.{History}
-use Rattle.returns.specs.View.{confirming, ViewNode, ViewMessage, store_to, stored_by, confirm_to, confirmed_by, fetch_from, table_from, View, put, Each, each_append, clash}
+use Rattle.returns.specs.View.{confirming, ViewNode, ViewMessage, store_to, stored_by, confirm_to, confirmed_by, fetch_from, table_from, View, put, Each}
 use Rattle.returns.specs.Change.{MaySend}
-use Rattle.returns.specs.Quorum.{live_not_fetching}
-use Rattle.returns.specs.Invariant.{Known, Answered, Past, Own, MessageHolds, Invariant, writing_live}
-use Rattle.returns.proofs.NodeSteps.{Forward}
+use Rattle.returns.specs.Invariant.{Known, Answered, Past, Own, MessageHolds, Invariant}
+use Rattle.returns.proofs.ReplaceLaws.{replaced_same}
+use Rattle.returns.proofs.RankLaws.{above_refl}
+use Rattle.returns.proofs.ViewLaws.{each_append, clash, live_not_fetching}
+use Rattle.returns.proofs.NodeSteps.{Forward, writing_live}
 
 -- what holds of v holds of node q after p has become v, if q is p
 at_changed : (P : ViewNode → Type 0) (node : ℕ → ViewNode) (p : ℕ) (v : ViewNode) (q : ℕ) → q ≡ p → P v → P (replaced node p v q)

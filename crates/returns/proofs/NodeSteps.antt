@@ -4,16 +4,27 @@ use Prim.Native.Nat.{ℕ, ◌≤◌, ◌<◌}
 use native.Mathlib.Omega.{arith}
 use mathlib.Core.Path.{◌≡◌, refl, ◌∙◌}
 use mathlib.Core.Logic.{◌⊎◌, inl, inr}
-use mathlib.Core.Bool.{true}
+use mathlib.Core.Bool.{Bool, true, false}
 use Rattle.item.specs.declared.Item.{Item}
 use Rattle.item.specs.Item.{item_above}
-use Rattle.returns.specs.Replace.{replaced, replaced_each}
-use Rattle.returns.specs.Rank.{Above, above_refl, above_trans, above_higher}
+use Rattle.returns.specs.Replace.{replaced}
+use Rattle.returns.specs.Rank.{Above}
 use Rattle.returns.specs.History.{History, Note}
-use Rattle.returns.specs.View.{down, fetching, up, idle, storing, confirming, ViewNode, View, live, clash}
+use Rattle.returns.specs.View.{down, fetching, up, idle, storing, confirming, ViewNode, View, live}
 use Rattle.returns.specs.Change.{SameWrite, StaysLive, Change, at_write, at_retry, at_crash, at_start, at_store, at_stored, at_last_stored, at_confirmed, at_last_confirmed, at_table, at_last_table, elsewhere, unchanged}
-use Rattle.returns.specs.Quorum.{NodeStep, lives_on, goes_down, restarts, counts_table, rebuilds, stays, live_not_fetching}
-use Rattle.returns.specs.Invariant.{DownOrHas, Answered, Past, Invariant, writing_live}
+use Rattle.returns.specs.Quorum.{NodeStep, lives_on, goes_down, restarts, counts_table, rebuilds, stays}
+use Rattle.returns.specs.Invariant.{DownOrHas, Answered, Past, Own, Invariant}
+use Rattle.returns.proofs.ReplaceLaws.{replaced_each}
+use Rattle.returns.proofs.RankLaws.{above_refl, above_trans, above_higher}
+use Rattle.returns.proofs.ViewLaws.{clash, live_not_fetching}
+
+-- x is live while it writes
+pub writing_live : (h : History) (v : ViewNode) → Own h v → (v.stage ≡ idle → ⊥) → live v.phase ≡ true
+writing_live h v o d = go (live v.phase) refl
+  where
+    go : (t : Bool) → live v.phase ≡ t → live v.phase ≡ true
+    go true e = e
+    go false e = absurd (d (o.when_off e))
 
 -- a live node whose phase and item stay
 goes_on : (f : ℕ) (g : View) (p : ℕ) (w : ViewNode) → live (g.node p).phase ≡ true → w.incarnation ≡ (g.node p).incarnation

@@ -5,12 +5,14 @@ use mathlib.Core.Logic.{◌≢◌}
 use mathlib.Core.Bool.{true, false, false≢true}
 use Rattle.item.specs.declared.Item.{Item}
 use Rattle.item.specs.Item.{item_above}
-use Rattle.returns.specs.Replace.{replaced, replaced_each, replaced_both}
+use Rattle.returns.specs.Replace.{replaced}
 use Rattle.returns.specs.History.{Note, History, after_note}
-use Rattle.returns.specs.View.{idle, storing, ViewNode, View, live, clash}
+use Rattle.returns.specs.View.{idle, storing, ViewNode, View, live}
 use Rattle.returns.specs.Change.{CountsStored, BeginsStoring, Change, at_write, at_retry, at_crash, at_start, at_store, at_stored, at_last_stored, at_confirmed, at_last_confirmed, at_table, at_last_table, elsewhere, unchanged}
-use Rattle.returns.specs.Quorum.{rebuilt_above}
 use Rattle.returns.specs.Invariant.{Own, Answered, CountedAnswered, Quorum, Invariant}
+use Rattle.returns.proofs.ReplaceLaws.{replaced_each, replaced_both}
+use Rattle.returns.proofs.ViewLaws.{clash}
+use Rattle.returns.proofs.QuorumLaws.{rebuilt_above}
 use Rattle.returns.proofs.NodeSteps.{Forward}
 use Rattle.returns.proofs.Items.{tells, others_quiet, finished_is}
 

@@ -8,13 +8,16 @@ use mathlib.Core.List.{List, [], ◌∷◌}
 use Rattle.item.specs.declared.Item.{Item}
 use Rattle.item.specs.Item.{zero_item}
 use Rattle.returns.specs.Replace.{replaced}
-use Rattle.returns.specs.Majority.{group_size, count_all}
-use Rattle.returns.specs.Rank.{above_refl}
+use Rattle.returns.specs.Majority.{group_size}
 use Rattle.returns.specs.History.{Note, History, at_set_up, after_note, May, Kept}
-use Rattle.returns.specs.View.{fetching, idle, ViewNode, ViewMessage, View, put, Each, each_nil, clash}
+use Rattle.returns.specs.View.{fetching, idle, ViewNode, ViewMessage, View, put, Each}
 use Rattle.returns.specs.Change.{MaySend, Change, Next, same, did}
-use Rattle.returns.specs.Quorum.{KeepsHeld, held_next, holds_live}
+use Rattle.returns.specs.Quorum.{KeepsHeld}
 use Rattle.returns.specs.Invariant.{Quorum, Invariant}
+use Rattle.returns.proofs.MajorityLaws.{count_all}
+use Rattle.returns.proofs.RankLaws.{above_refl}
+use Rattle.returns.proofs.ViewLaws.{each_nil, clash}
+use Rattle.returns.proofs.QuorumLaws.{held_next, holds_live}
 use Rattle.returns.proofs.NodeSteps.{Forward, node_step, forward_next, past_next}
 use Rattle.returns.proofs.Items.{tells, known_zero, known_next, may_tell, item_change, items_next}
 use Rattle.returns.proofs.Own.{own_change, own_next, answered_next}

@@ -4,13 +4,11 @@
 -- field by field. Document 01 asks more than the proof needs: that a node starts from Down only, that no answer is counted
 -- twice, that exactly f are asked, that a Confirm fits the addressee's row and incarnation (x compares the incarnation in
 -- the Confirmed with the recorded one), and that a node which answers Fetch is Up (Returning would do).
-use Rattle.std.specs.Prelude.{ℕ, suc, ◌≤◌, ◌<◌, ◌≡◌, refl, ◌≢◌, true, false, List, ◌++◌}
-use Rattle.std.proofs.Common.{sym, subst}
-use Rattle.std.proofs.Math.Path.{fun_ext}
+use Rattle.std.specs.Prelude.{ℕ, suc, ◌≤◌, ◌<◌, ◌≡◌, ◌≢◌, true, false, List}
 use Rattle.item.specs.declared.Item.{Item}
 use Rattle.item.specs.declared.Tag.{Tag}
 use Rattle.item.specs.Item.{zero_item, item_above}
-use Rattle.returns.specs.Replace.{replaced, replaced_each}
+use Rattle.returns.specs.Replace.{replaced}
 use Rattle.returns.specs.Majority.{count, group_size}
 use Rattle.returns.specs.Rank.{Above}
 use Rattle.returns.specs.History.{Note, quiet, begins, settles, returns}
@@ -139,10 +137,3 @@ module _ (f x : ℕ) where
   pub data Next (g : View) : Note → View → Type 0 where
     same : Next g quiet g
     did : {n : Note} {p : ℕ} {v : ViewNode} {ms : List ViewMessage} → Change g n p v → Each (MaySend x g p v) ms → Next g n (put g p v ms)
-
-  -- `did`, where the nodes afterwards are given as a function that differs at p alone
-  pub did_at : (g : View) (n : Note) (p : ℕ) (node' : ℕ → ViewNode) (ms : List ViewMessage) → ((q : ℕ) → q ≢ p → node' q ≡ g.node q)
-      → Change g n p (node' p) → Each (MaySend x g p (node' p)) ms → Next g n (record { node = node'; sent = ms ++ g.sent })
-  did_at g n p node' ms others c e =
-      subst (λ (h : ℕ → ViewNode). Next g n (record { node = h; sent = ms ++ g.sent }))
-      (fun_ext (replaced_each (λ q w. w ≡ node' q) g.node p (node' p) refl (λ q d. sym (others q d)))) (did c e)

@@ -1,6 +1,6 @@
 -- What holds of every view that a run reaches, given the history of x up to there. Two parts carry the claim: some quorum
 -- holds x's last item, and every item of x in a row or a message is at most one index above it, and then was begun.
-use Rattle.std.specs.Prelude.{ℕ, suc, ◌≤◌, ◌<◌, ◌≡◌, refl, ◌≢◌, ◌⊎◌, Bool, true, false}
+use Rattle.std.specs.Prelude.{ℕ, suc, ◌≤◌, ◌<◌, ◌≡◌, ◌≢◌, ◌⊎◌, Bool, true, false}
 use mathlib.Core.List.{Memᴰ}
 use Rattle.item.specs.declared.Item.{Item}
 use Rattle.returns.specs.Replace.{replaced}
@@ -82,11 +82,3 @@ pub record Invariant (f x : ℕ) (h : History) (g : View) : Type 0 where
   pub answered : (g.node x).stage ≡ storing → CountedAnswered x g (g.node x)
   pub asked : (g.node x).stage ≡ confirming → Asked f x g (g.node x)
   pub quorum : Quorum f x h.last g
-
--- x is live while it writes
-pub writing_live : (h : History) (v : ViewNode) → Own h v → (v.stage ≡ idle → ⊥) → live v.phase ≡ true
-writing_live h v o d = go (live v.phase) refl
-  where
-    go : (t : Bool) → live v.phase ≡ t → live v.phase ≡ true
-    go true e = e
-    go false e = absurd (d (o.when_off e))

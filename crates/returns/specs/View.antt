@@ -3,10 +3,8 @@
 -- view of a real node is a projection of its fields, the same for x and for every other node: attempt, stage, counted and
 -- asked are kept of all nodes, though of a node other than x only `counted`, and only while it is Fetching, is ever used. So
 -- no lemma that ties a definition to the view need tell x from another node to say what the view is.
-use Rattle.std.specs.Prelude.{ℕ, ◌≡◌, ◌⊎◌, Bool, true, false}
-use Rattle.std.proofs.Common.{arith, sym, subst, inl, inr}
-use mathlib.Core.List.Memᴰ
-use mathlib.Core.List.{List, [], ◌∷◌, ◌++◌, Memᴰ}
+use Rattle.std.specs.Prelude.{ℕ, Bool, true, false}
+use mathlib.Core.List.{List, ◌++◌, Memᴰ}
 use Rattle.item.specs.declared.Item.{Item}
 use Rattle.returns.specs.Replace.{replaced}
 
@@ -64,21 +62,3 @@ Sent m g = Memᴰ m g.sent
 -- P holds of every message of a list
 abbrev pub Each : (ViewMessage → Type 0) → List ViewMessage → Type 0
 Each P l = (m : ViewMessage) → Memᴰ m l → P m
-
-pub each_nil : (P : ViewMessage → Type 0) → Each P []
-each_nil P m h = absurd (Memᴰ.not-nil h)
-
-pub each_cons : (P : ViewMessage → Type 0) (a : ViewMessage) (l : List ViewMessage) → P a → Each P l → Each P (a ∷ l)
-each_cons P a l h t m (Memᴰ.head e) = subst P (sym e) h
-each_cons P a l h t m (Memᴰ.tail k) = t m k
-
-pub each_append : (P : ViewMessage → Type 0) (s t : List ViewMessage) → Each P s → Each P t → Each P (s ++ t)
-each_append P s t a b m h = go (Memᴰ.append_cases s h)
-  where
-    go : Memᴰ m s ⊎ Memᴰ m t → P m
-    go (inl k) = a m k
-    go (inr k) = b m k
-
--- two constructors are never equal: `cc` finds 0 ≡ 1 from facts that clash
-pub clash : {B : Type 0} → ◌≡◌ {A = ℕ} 0 1 → B
-clash e = absurd (omega arith)

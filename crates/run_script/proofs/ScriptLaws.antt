@@ -10,7 +10,7 @@ use borrow.Rule.Slice.PartMut.{mid_of, put_mid, post_of}
 use lib.ListN.{length, take, drop, replicate, length-append, drop_of_length-le}
 use lib.Seq.{take_at, take-take, take-append-le, take-append-add, length-take-le}
 use borrow.Author.Tests.{eq-eqb}
-use Rattle.item.specs.Tests.{by_cond}
+use Rattle.item.proofs.Tests.{by_cond}
 use Rattle.answers.specs.Output.{output_line, line_room}
 use Rattle.answers.proofs.Printing.{line_length}
 use Rattle.std.specs.Prelude.{None}

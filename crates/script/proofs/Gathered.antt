@@ -7,7 +7,7 @@ use lib.Dec.{ltb, leb}
 use lib.ListN.{length, take, set, length-set, length-take, length-append}
 use lib.Seq.{take_all, take-suc-set, take-append-le, length-take-le, append_snoc}
 use borrow.Author.Tests.{ltb-true, ltb-false, leb-true, leb-false}
-use Rattle.item.specs.Tests.{by_cond}
+use Rattle.item.proofs.Tests.{by_cond}
 use Rattle.script.specs.Line.{line_of}
 use Rattle.script.proofs.Reading.{line_long}
 use Rattle.std.specs.Prelude.{None}

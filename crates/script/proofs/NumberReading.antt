@@ -11,7 +11,7 @@ use lib.Dec.{ltb, leb, eqb}
 use lib.ListN.{length, get_or, drop, drop_of_length-le}
 use lib.Seq.{drop-cons}
 use borrow.Author.Tests.{ltb-true, ltb-false, lt-ltb, le-ltb, le-leb, leb-true, eqb-false, ne_eqb}
-use Rattle.item.specs.Tests.{by_cond, and_left, and_right}
+use Rattle.item.proofs.Tests.{by_cond, and_left, and_right}
 use Rattle.script.specs.Number.{is_digit, all_digits, value_from, number_from, leading_zero, number_in}
 use Rattle.std.specs.Prelude.{Some, None}
 

@@ -9,7 +9,7 @@ use lib.Dec.{ltb, leb, eqb}
 use lib.ListN.{length, get_or, take, drop, drop_of_length-le, length-drop}
 use lib.Seq.{take_all}
 use borrow.Author.Tests.{ltb-true, ltb-false}
-use Rattle.item.specs.Tests.{by_cond}
+use Rattle.item.proofs.Tests.{by_cond}
 use Rattle.script.specs.Bytes.{space}
 use Rattle.script.specs.Number.{number_in}
 use Rattle.script.proofs.NumberReading.{too_long, none_in}

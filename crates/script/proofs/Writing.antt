@@ -8,7 +8,7 @@ use mathlib.Core.List.{List, [], ◌∷◌, ◌++◌}
 use lib.Dec.{ltb}
 use lib.ListN.{length, get_or, length-append, get_or-append}
 use borrow.Author.Tests.{ltb-true, ltb-false, lt-ltb, le-leb, ne_eqb}
-use Rattle.item.specs.Tests.{by_cond, and_left, and_right}
+use Rattle.item.proofs.Tests.{by_cond, and_left, and_right}
 use Rattle.script.specs.Number.{is_digit, all_digits, value_from, number_from, leading_zero, number_in}
 use Rattle.script.specs.Digits.{digits_of, decimal_of}
 use Rattle.script.proofs.NumberReading.{and_false}

@@ -11,7 +11,7 @@ use borrow.Author.Tests.{eq-eqb}
 use lib.ListN.{length, take, drop, get_or, length-drop, get_or-eq_default}
 use lib.Seq.{drop-cons, drop-drop, get_or-drop, ext_get_or}
 use Rattle.item.specs.Maxima.{max_nodes, tag_size}
-use Rattle.item.specs.Tests.{by_cond, and_both}
+use Rattle.item.proofs.Tests.{by_cond, and_both}
 use Rattle.item.specs.declared.Item.{Item}
 use Rattle.endian.specs.Part.{part, whole}
 use Rattle.endian.proofs.PartLaws.{by_order, part_is, part_none, part_with_other}

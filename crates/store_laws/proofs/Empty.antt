@@ -10,7 +10,7 @@ use borrow.Author.Tests.{eq-eqb}
 use lib.ListN.{length, drop, get_or, get_or-replicate, length-replicate, get_or-eq_default}
 use lib.Seq.{get_or-set_other, get_or-drop, take-set-le}
 use Rattle.item.specs.Maxima.{valid_size}
-use Rattle.item.specs.Tests.{and_both}
+use Rattle.item.proofs.Tests.{and_both}
 use Rattle.endian.specs.Part.{part, whole}
 use Rattle.endian.proofs.PartLaws.{by_order}
 use Rattle.endian.specs.Number.{value, number_at, with_number}

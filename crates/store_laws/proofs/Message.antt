@@ -10,7 +10,7 @@ use lib.Dec.{eqb, ltb}
 use borrow.Author.Tests.{eqb-true, eqb-false, eq-eqb, ne_eqb, ltb-true, lt-ltb, not-true}
 use lib.ListN.{length, drop, get_or, get_or-eq_default}
 use lib.Seq.{get_or-drop}
-use Rattle.item.specs.Tests.{by_cond, and_left, and_right, and_both}
+use Rattle.item.proofs.Tests.{by_cond, and_left, and_right, and_both}
 use Rattle.endian.proofs.PartLaws.{by_order}
 use Rattle.endian.specs.Zero.{all_zero}
 use Rattle.message.specs.declared.Envelope.{Envelope}

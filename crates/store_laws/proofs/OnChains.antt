@@ -7,7 +7,7 @@ use native.Mathlib.Omega.{arith}
 use lib.ListN.{length}
 use Rattle.std.specs.Prelude.{None, Option, Some}
 use Rattle.item.specs.Maxima.{valid_size}
-use Rattle.item.specs.Tests.{and_left, and_right, and_both}
+use Rattle.item.proofs.Tests.{and_left, and_right, and_both}
 use Rattle.endian.proofs.PartLaws.{by_order}
 use Rattle.record.specs.Record.{zero_after_next}
 use Rattle.store.specs.declared.Walked.{Walked}

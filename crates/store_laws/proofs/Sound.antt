@@ -9,7 +9,7 @@ use lib.Dec.{leb}
 use borrow.Author.Tests.{leb-true}
 use lib.ListN.{length}
 use Rattle.item.specs.Maxima.{max_nodes, valid_size}
-use Rattle.item.specs.Tests.{and_left, and_right}
+use Rattle.item.proofs.Tests.{and_left, and_right}
 use Rattle.record.specs.Layout.{record_size}
 use Rattle.store.specs.Records.{record_in, records_of, right_length}
 use Rattle.store.specs.Head.{group_size}

@@ -12,7 +12,7 @@ use lib.Dec.{eqb}
 use borrow.Author.Tests.{eqb-true, eqb-false, eq-eqb, ne_eqb}
 use lib.ListN.{length, get_or, set, replicate, length-set, length-replicate, get_or-replicate, get_or-eq_default}
 use lib.Seq.{get_or-set_same, get_or-set_other}
-use Rattle.item.specs.Tests.{by_cond, and_left, and_right, and_both}
+use Rattle.item.proofs.Tests.{by_cond, and_left, and_right, and_both}
 use Rattle.endian.proofs.PartLaws.{by_order}
 use Rattle.store.specs.declared.Walked.{Walked}
 use Rattle.store.specs.Records.{record_in}

@@ -5,7 +5,7 @@ use mathlib.Core.Path.{sym, ◌∙◌}
 use lib.ListN.{length}
 use borrow.Author.Tests.{leb-true, leb-false}
 use borrow.Author.Rules.{rules}
-use Rattle.item.specs.Tests.{granted}
+use Rattle.item.proofs.Tests.{granted}
 use Rattle.answers.proofs.Printing.{line_length}
 use Rattle.answers.proofs.Placing.{begun_at, placed_fits, after_fits, placed_none, after_none}
 use Rattle.answers.specs.Output.{output_line, line_room}

@@ -6,7 +6,7 @@ use Rattle.std.proofs.lemmas.Iterator.{YieldsList-from_slice}
 use Rattle.std.proofs.lemmas.Iterator.Consumers.{YieldsList-from_enumerate}
 use Rattle.std.proofs.lemmas.Iterator.Search.{all_from_yields_List}
 use Rattle.std.specs.Prelude.{Option}
-use Rattle.item.specs.Tests.{granted}
+use Rattle.item.proofs.Tests.{granted}
 use Rattle.item.specs.declared.counters.Incarnation.{Incarnation}
 use Rattle.protocol.specs.Sound.{among_asked, counted_asked}
 use Rattle.node_sound.proofs.Every.{every_enumerated}

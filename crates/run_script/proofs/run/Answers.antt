@@ -5,7 +5,7 @@ use mathlib.Core.Path.{◌≡◌, sym, ◌∙◌}
 use lib.ListN.{take, replicate}
 use borrow.Author.Tests.{leb-true, leb-false}
 use borrow.Author.Rules.{rules}
-use Rattle.item.specs.Tests.{granted}
+use Rattle.item.proofs.Tests.{granted}
 use Rattle.record.specs.Layout.{record_size}
 use Rattle.store.specs.Records.{record_count}
 use Rattle.run_script.proofs.ScriptLaws.{first_of_replicate, none_left, cut_short, ended, unended}

@@ -5,7 +5,7 @@ use mathlib.Core.Logic.{inl, inr}
 use lib.ListN.{length}
 use borrow.Author.Tests.{leb-true, leb-false}
 use borrow.Author.Rules.{rules}
-use Rattle.item.specs.Tests.{granted}
+use Rattle.item.proofs.Tests.{granted}
 use Rattle.answers.specs.Output.{line_room}
 use Rattle.drill_state.specs.Position.{asked_by}
 use Rattle.drill_state.proofs.Laws.{kept_start, kept_byte, kept_unread, asks_there, ended_there}

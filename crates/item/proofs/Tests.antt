@@ -1,7 +1,7 @@
 -- How a test that a callee answered is read in a proof: `if !r { return .. }`, taken or left, where r is what a definition gives.
-use Rattle.std.specs.Prelude.{◌≡◌, refl, Bool, true, false, not, cond, ◌&&◌}
-use Rattle.std.proofs.Common.{sym, ◌∙◌}
-use Rattle.std.proofs.lemmas.Bool.{false≢true, not-false}
+use mathlib.Core.Path.{◌≡◌, refl, sym, ◌∙◌}
+use mathlib.Core.Bool.{Bool, true, false, not, cond, ◌&&◌, false≢true}
+use Rattle.std.proofs.lemmas.Bool.{not-false}
 
 pub granted : {r b : Bool} → r ≡ b → not r ≡ false → b ≡ true
 granted {r} e h = sym e ∙ not-false r h
