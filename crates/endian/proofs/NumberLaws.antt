@@ -10,7 +10,7 @@ use native.Mathlib.Nat.{suc-add, zero-add, pow-suc, pow-succ', mul_assoc, mod-ad
 use lib.Dec.{leb}
 use lib.ListN.{length, take, drop, get_or, length-take, take-append-drop, get_or-eq_default}
 use lib.Seq.{take-add, drop-drop, drop-cons, get_or-take, get_or-drop}
-use Rattle.endian.proofs.PartLaws.{by_order, part_is, part_none, length_middle, length_with, part_with, with_none, outside}
+use Rattle.endian.proofs.PartLaws.{by_order, part_is, part_none, length_middle, length_with, part_with, with_none, with_joined, outside}
 use Rattle.endian.specs.Number.{value, bytes, number_at, with_number, AreBytes}
 
 pub length_bytes : (w v : ℕ) → length (bytes w v) ≡ w
@@ -111,6 +111,12 @@ number_joined a b s at h =
     rw (part_is (a + b) s at h, part_is a s at (omega arith), part_is b s (at + a) (omega arith), take-add a b (drop at s), drop-drop a at s)
     (value_append (take a (drop at s)) (take b (drop (at + a) s))
     ∙ ap (λ (k : ℕ). value (take a (drop at s)) + 256 ^ k * value (take b (drop (at + a) s))) (length_middle a s at (omega arith)))
+
+pub with_number_joined : (a b : ℕ) (s : List ℕ) (at v : ℕ) → at + (a + b) ≤ length s
+    → with_number b (with_number a s at (v % 256 ^ a)) (at + a) (v / 256 ^ a) ≡ with_number (a + b) s at v
+unfolding with_number
+with_number_joined a b s at v h =
+    rw (bytes_low a v, bytes_append a b v) (with_joined a b s at (bytes a v) (bytes b (v / 256 ^ a)) (length_bytes a v) (length_bytes b (v / 256 ^ a)) h)
 
 -- as code writes: r is the answer whether the bytes lie within s
 pub nothing_written : {r : Bool} (w : ℕ) (s : List ℕ) (at : ℕ) → r ≡ leb (at + w) (length s) → (v : ℕ) → r ≡ false → s ≡ with_number w s at v

@@ -1,7 +1,10 @@
 -- How a test that a callee answered is read in a proof: `if !r { return .. }`, taken or left, where r is what a definition gives.
 use mathlib.Core.Path.{◌≡◌, refl, sym, ◌∙◌}
 use mathlib.Core.Bool.{Bool, true, false, not, cond, ◌&&◌, false≢true}
-use Rattle.std.proofs.lemmas.Bool.{not-false}
+use Rattle.std.proofs.lemmas.Bool.{not-true, not-false}
+
+pub refuted : {r b : Bool} → r ≡ b → not r ≡ true → b ≡ false
+refuted {r} e h = sym e ∙ not-true r h
 
 pub granted : {r b : Bool} → r ≡ b → not r ≡ false → b ≡ true
 granted {r} e h = sym e ∙ not-false r h

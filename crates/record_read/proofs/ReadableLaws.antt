@@ -1,7 +1,7 @@
 -- Laws of readable records: a record is readable exactly if its fields say a message and every byte after its rows is zero.
 use Prim.Native.Nat.{ℕ, ◌+◌, ◌*◌, ◌≤◌}
 use mathlib.Core.Path.{◌≡◌, refl, sym, ap, ◌∙◌}
-use mathlib.Core.Bool.{true, false, false≢true}
+use mathlib.Core.Bool.{Bool, true, false, false≢true}
 use mathlib.Core.List.{List}
 use native.Mathlib.Omega.{arith}
 use lib.Dec.{eqb}
@@ -12,7 +12,7 @@ use Rattle.message.specs.declared.Message.{Message}
 use Rattle.message.specs.declared.Message.TheVariants.{Store, Stored, Confirm, Confirmed, Fetch, Table}
 use Rattle.message.specs.declared.Envelope.{Envelope}
 use Rattle.endian.specs.Zero.{all_zero}
-use Rattle.record.specs.Kind.{table_kind, kind_of, fields_of, message_of, rows_held}
+use Rattle.record.specs.Kind.{table_kind, kind_of, fields_of, message_of, rows_held, known_if}
 use Rattle.record.specs.declared.kinds.Fields.{Fields}
 use Rattle.record.specs.Layout.{record_size, rows_at, row_size, fields_in}
 use Rattle.record.specs.Record.{read_record, read_as, zero_after_rows, envelope_of}
@@ -20,6 +20,12 @@ use Rattle.record.proofs.RoundTripLaws.{fields_again}
 use Rattle.record_read.specs.Known.{is_known}
 use Rattle.record_read.specs.Readable.{is_found, readable, rows_of_kind, zero_after_kind}
 use Rattle.std.specs.Prelude.{None, Option, Some}
+
+-- a test in the definition of the message that fields say
+pub known_if_lem : (t : Bool) (m : Message) → is_known (known_if t m) ≡ t
+unfolding is_known
+known_if_lem true m = refl
+known_if_lem false m = refl
 
 pub rows_of_kind_most : (kind n : ℕ) → rows_of_kind kind n ≤ max_nodes
 unfolding rows_of_kind
