@@ -80,3 +80,16 @@ placed_none room out at text h = rw (lt-leb (at + room) (length out) h)
 pub after_none : (room : ℕ) (out : List ℕ) (at : ℕ) (text : List ℕ) → length out < at + room → place_after room out at text ≡ at
 unfolding place_after
 after_none room out at text h = rw (lt-leb (at + room) (length out) h)
+
+-- the same of text at the start, which asks for its own room
+pub whole_fits : (out text : List ℕ) {n : ℕ} {last : List ℕ} → length text ≤ length out → Begins out text n last
+    → (n ≡ place_after (length text) out 0 text) × (last ≡ placed (length text) out 0 text)
+whole_fits out text f b =
+    let room : 0 + length text ≤ length out = omega arith in
+    let z : 0 + length text ≡ length text = omega arith in
+    (b.count f ∙ sym (after_fits (length text) out 0 text room ∙ z), b.bytes f ∙ sym (placed_fits (length text) out 0 text room))
+
+pub whole_none : (out text : List ℕ) → length out < length text → (0 ≡ place_after (length text) out 0 text) × (out ≡ placed (length text) out 0 text)
+whole_none out text h =
+    let few : length out < 0 + length text = omega arith in
+    (sym (after_none (length text) out 0 text few), sym (placed_none (length text) out 0 text few))

@@ -96,9 +96,10 @@ fn put_tag(out: &mut [u8], tag: Tag) -> usize
     put_number(out, tag.0)
 }
 
-// Writes some bytes.
+// Writes some bytes; where they do not fit, nothing.
 fn put_text(out: &mut [u8], text: &[u8]) -> usize
-    ensures { Begins out.old text.now result out.new }
+    ensures begins { Begins out.old text.now result out.new }
+    ensures whole { (result ≡ place_after (length text.now) out.old 0 text.now) × (out.new ≡ placed (length text.now) out.old 0 text.now) }
 {
     if out.len() < text.len() {
         return 0;
@@ -107,9 +108,10 @@ fn put_text(out: &mut [u8], text: &[u8]) -> usize
     text.len()
 }
 
-// Writes a number in decimal.
+// Writes a number in decimal; where its digits do not fit, nothing.
 fn put_number(out: &mut [u8], v: u64) -> usize
-    ensures { Begins out.old (decimal_of v) result out.new }
+    ensures begins { Begins out.old (decimal_of v) result out.new }
+    ensures whole { (result ≡ place_after (length (decimal_of v)) out.old 0 (decimal_of v)) × (out.new ≡ placed (length (decimal_of v)) out.old 0 (decimal_of v)) }
 {
     put_text(out, Buffer::new().format(v).as_bytes())
 }

@@ -13,4 +13,4 @@ returns c =
     let a = c.args in
     let d = decimal_of a.item.index.0 in
     rw (← append_assoc a.word.now d (space ∷ tag_bytes a.item.tag), ← append_snoc (a.word.now ++ d) space (tag_bytes a.item.tag))
-    (goes_on (goes_on c.put_value-indexed.ensures c.put_text.ensures) c.put_tag.ensures)
+    (goes_on (goes_on c.put_value-indexed.ensures c.put_text.ensures.begins) c.put_tag.ensures)

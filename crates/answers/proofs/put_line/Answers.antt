@@ -13,4 +13,4 @@ returns c =
     let d = decimal_of c.args.count in
     let r = reply_bytes c.args.reply in
     rw (← append_snoc d space (r ++ (line_feed ∷ [])), ← append_assoc (d ++ (space ∷ [])) r (line_feed ∷ []))
-    (goes_on (goes_on (goes_on c.put_number-counted.ensures c.put_text.ensures) c.put_reply.ensures) c.put_text-2.ensures)
+    (goes_on (goes_on (goes_on c.put_number-counted.ensures.begins c.put_text.ensures.begins) c.put_reply.ensures) c.put_text-2.ensures.begins)

@@ -3,4 +3,9 @@ use Rattle.script.proofs.Writing.{decimal_is}
 use Rattle.answers.proofs.put_number.Goals as goal
 
 pub returns : goal.returns
-returns c = rw (decimal_is c.args.v c.ranges.v.fits, ← c.format.ensures.text, ← c.as_bytes.ensures.value) c.put_text.ensures
+returns c =
+    let w = c.put_text.ensures in
+    record {
+      begins = rw (decimal_is c.args.v c.ranges.v.fits, ← c.format.ensures.text, ← c.as_bytes.ensures.value) w.begins;
+      whole = rw (decimal_is c.args.v c.ranges.v.fits, ← c.format.ensures.text, ← c.as_bytes.ensures.value) w.whole;
+    }
