@@ -66,7 +66,7 @@ impl Belongs for Inbox {
 // A chain from record `first` is followed to its end: how many records it has, or nothing where it comes to a record that is not
 // there, was passed before or does not belong on it.
 // Kept: a `while` with a `continue` where the guess was right. A `for`, or a method for the guess, was tried: the compiler reads
-// the link in its place, and the check of an empty store takes 1,492 ns for 1,349 (docs/PERFORMANCE.md).
+// the link in its place, and the check of an empty store takes 1,492 ns for 1,349 (docs/DECISIONS.md, point 15).
 pub fn follow<C: Belongs>(
     s: &[u8; store::LENGTH],
     chain: &C,
