@@ -71,20 +71,27 @@ some_present p = go p.present
     go false = refl
 
 -- a peer more in front
-pub count_more : (p : Peer) (peers : List Peer) → count_peers (p ∷ peers) ≡ bit p.present + count_peers peers
+pub count_more : (p : Peer) (peers : List Peer) → count_peers (p ∷ peers) ≡ cond p.present 1 0 + count_peers peers
 unfolding count_peers
-count_more p peers = omega (arith, sum_by-cons (λ (q : Peer). cond q.present 1 0) p peers, go p.present)
-  where
-    go : (b : Bool) → cond b 1 0 ≡ bit b
-    go true = refl
-    go false = refl
+count_more p peers = omega (arith, sum_by-cons (λ (q : Peer). cond q.present 1 0) p peers)
+
+bit_cond : (b : Bool) → cond b 1 0 ≡ bit b
+bit_cond true = refl
+bit_cond false = refl
 
 -- counting the list is counting its flags
 pub count_peers_lem : (peers : List Peer) → count_peers peers ≡ count (present peers) (length peers)
 unfolding peer_of count count_peers
 count_peers_lem [] = refl
 count_peers_lem (p ∷ peers) =
-    omega (arith, count_first (present (p ∷ peers)) (length peers), count_more p peers, ap bit (some_present p), count_peers_lem peers)
+    omega (
+      arith,
+      count_first (present (p ∷ peers)) (length peers),
+      count_more p peers,
+      bit_cond p.present,
+      ap bit (some_present p),
+      count_peers_lem peers,
+    )
 
 -- a count of zero: nobody is present
 bit_zero : (b : Bool) → bit b ≡ 0 → b ≡ false
