@@ -44,7 +44,7 @@ use Rattle.laws_liveness.proofs.Lists.{each_map, each_all, each_two, both_map, b
 use Rattle.laws_liveness.proofs.Peer.{Answered, all_answer}
 use Rattle.laws_liveness.proofs.Stages.{MayTake, Holding, store_answer, confirm_answer, AtStoring, to_confirm, stored_taken, storing_kept, confirm_fits, AtConfirming, confirmed_taken, confirming_kept, success_fits, confirming_at, settles}
 use Rattle.laws_liveness.proofs.Writer.{Tallied, tally}
-use Rattle.std.specs.Prelude.{Option, Some, is_some, option_map}
+use Rattle.std.specs.Prelude.{Some, is_some, option_map}
 use Rattle.message.specs.declared.Message.{Message}
 
 some_half : (n : ℕ) → valid_size n ≡ true → 0 < half n

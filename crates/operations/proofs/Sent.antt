@@ -14,7 +14,7 @@ use Rattle.item.specs.declared.Row.{Row}
 use Rattle.message.specs.declared.Envelope.{Envelope}
 use Rattle.message.specs.declared.Message.{Message}
 use Rattle.message.specs.declared.Message.TheVariants as message
-use Rattle.std.specs.Prelude.{Option, Some, None}
+use Rattle.std.specs.Prelude.{Some, None}
 use Rattle.record.specs.Kind.{fields_of, rows_held, other_of, attempt_of, item_of}
 use Rattle.record.specs.Layout.{padded}
 use Rattle.message.specs.Rows.{held_rows}
