@@ -28,6 +28,7 @@ use Rattle.protocol.proofs.TableLaws.{node_sound}
 use Rattle.protocol.specs.declared.Answer.{Answer}
 use Rattle.protocol.specs.declared.Answer.TheVariants as answer
 use Rattle.protocol.specs.declared.Node.{Node}
+use Rattle.protocol.specs.declared.Peer.{Peer}
 use Rattle.protocol.specs.declared.Sends.TheVariants as sends
 use Rattle.protocol.specs.declared.Stage.TheVariants.{Confirming}
 use Rattle.protocol.proofs.Counts.{none_present}
@@ -43,7 +44,7 @@ use Rattle.laws_liveness.proofs.Lists.{each_map, each_all, each_two, both_map, b
 use Rattle.laws_liveness.proofs.Peer.{Answered, all_answer}
 use Rattle.laws_liveness.proofs.Stages.{MayTake, Holding, store_answer, confirm_answer, AtStoring, to_confirm, stored_taken, storing_kept, confirm_fits, AtConfirming, confirmed_taken, confirming_kept, success_fits, confirming_at, settles}
 use Rattle.laws_liveness.proofs.Writer.{Tallied, tally}
-use Rattle.std.specs.Prelude.{Option, Some, is_some, option_map}
+use Rattle.std.specs.Prelude.{Some, is_some, option_map}
 use Rattle.message.specs.declared.Message.{Message}
 
 some_half : (n : ℕ) → valid_size n ≡ true → 0 < half n
@@ -79,7 +80,7 @@ module _ (n x : ℕ) (x_low : x < n) (i : Incarnation) (a : Attempt) (item : Ite
       tally n x x_low under (message.Stored i a item) (to_confirm n x i a item under) (AtStoring n x i a item under) (half n)
       (stored_taken n x i a item under) (storing_kept n x i a item under) (confirm_fits n x i a item under) q qs r rs d l before G h
       (each_all (λ p. AtStoring n x i a item under p (node_at before.table x)) (λ p. w) (q ∷ qs))
-      (each_all (λ p. is_some (peer_of (node_at before.table x).counted p) ≡ false) (λ p. ap (λ (l : List (Option Incarnation)). is_some (peer_of l p)) none ∙ none_present p) (q ∷ qs))
+      (each_all (λ p. is_some (peer_of (node_at before.table x).counted p) ≡ false) (λ p. ap (λ (l : List Peer). is_some (peer_of l p)) none ∙ none_present p) (q ∷ qs))
       (omega (arith, ap count_peers none, none_counted_lem)) room
 
   confirmed_round : (before : Result) → LeavesSound n before → (qs rs : List ℕ) → Distinct qs → Each (λ q. q < n) qs → length qs ≡ half n
@@ -94,7 +95,7 @@ module _ (n x : ℕ) (x_low : x < n) (i : Incarnation) (a : Attempt) (item : Ite
       tally n x x_low under (message.Confirmed i a item) store_success (AtConfirming n x i a item under) 0
       (confirmed_taken n x i a item under) (confirming_kept n x i a item under) (success_fits n x i a item under) q qs r rs d l before G h
       w
-      (each_all (λ p. is_some (peer_of (node_at before.table x).counted p) ≡ false) (λ p. ap (λ (l : List (Option Incarnation)). is_some (peer_of l p)) none ∙ none_present p) (q ∷ qs))
+      (each_all (λ p. is_some (peer_of (node_at before.table x).counted p) ≡ false) (λ p. ap (λ (l : List Peer). is_some (peer_of l p)) none ∙ none_present p) (q ∷ qs))
       (omega (arith, ap count_peers none, none_counted_lem)) (omega arith)
 
   pub x_small : (before : Result) → LeavesSound n before → x < max_nodes

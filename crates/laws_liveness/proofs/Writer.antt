@@ -4,11 +4,10 @@ use Prim.Native.Nat.{ℕ, zero, suc, ◌+◌, ◌≤◌, ◌<◌}
 use native.Mathlib.Omega.{arith}
 use mathlib.Core.Path.{◌≡◌, refl, sym, ap, subst, ◌∙◌}
 use mathlib.Core.Logic.{◌≢◌}
-use mathlib.Core.Bool.{Bool, true, false, cond, false≢true}
+use mathlib.Core.Bool.{Bool, true, false, cond}
 use mathlib.Core.List.{List, [], ◌∷◌, ◌++◌, map}
 use lib.Dec.{ltb}
 use lib.ListN.{length, set}
-use lib.Seq.{get_or-set_same, get_or-set_other}
 use borrow.Author.Tests.{lt-ltb, le-ltb}
 use Rattle.item.specs.declared.counters.Incarnation.{Incarnation}
 use Rattle.item.specs.declared.Item.{Item}
@@ -20,7 +19,7 @@ use Rattle.store.specs.Records.{records_of, record_in}
 use Rattle.store.specs.Sound.{free_count, message_in}
 use Rattle.protocol.specs.Answer.{ok, is_refused}
 use Rattle.protocol.specs.Deliver.{deliver_step}
-use Rattle.protocol.specs.Node.{half, peer_of, count_peers, with_counted, below_half}
+use Rattle.protocol.specs.Node.{half, peer_under, peer_of, count_peers, with_counted, below_half}
 use Rattle.operations.specs.Operation.{Result}
 use Rattle.protocol.specs.Outgoing.{outgoing}
 use Rattle.protocol.specs.Sound.{sound_node}
@@ -31,9 +30,10 @@ use Rattle.protocol.proofs.TableLaws.{node_sound}
 use Rattle.protocol.specs.declared.Answer.{Answer}
 use Rattle.protocol.specs.declared.Answer.TheVariants as answer
 use Rattle.protocol.specs.declared.Node.{Node}
+use Rattle.protocol.specs.declared.Peer.{Peer}
 use Rattle.protocol.specs.declared.Sends.TheVariants as sends
 use Rattle.protocol.specs.declared.Step.{Step}
-use Rattle.protocol.proofs.Counts.{count_none, count_some}
+use Rattle.protocol.proofs.Counts.{some_present, count_more, peer_set_same, peer_set_other}
 use Rattle.protocol.proofs.InView.{size_is, size_fits}
 use Rattle.laws_enabled.proofs.Sent.{nothing_sent_lem}
 use Rattle.laws_runs.specs.Laws.{LeavesSound}
@@ -42,19 +42,17 @@ use Rattle.laws_liveness.specs.Delivery.{Delivery, deliver, Deliver, oks, envelo
 use Rattle.laws_liveness.specs.Each.{Each, Both, Distinct}
 use Rattle.laws_liveness.proofs.Delivering.{Acted, delivery_as, sound_as, replaced, left_alone}
 use Rattle.laws_liveness.proofs.Lists.{each_map, each_two, both_map}
-use Rattle.std.specs.Prelude.{Option, Some, None, is_some}
+use Rattle.std.specs.Prelude.{Option, Some, is_some}
 
 -- one more is counted
-pub count_set : (peers : List (Option Incarnation)) (q : ℕ) (i : Incarnation) → is_some (peer_of peers q) ≡ false → q < length peers
-    → count_peers (set peers q (Some i)) ≡ suc (count_peers peers)
+pub count_set : (peers : List Peer) (q : ℕ) (i : Incarnation) → is_some (peer_of peers q) ≡ false → q < length peers
+    → count_peers (set peers q (peer_under i)) ≡ suc (count_peers peers)
 unfolding peer_of
 count_set [] q i a l = absurd (omega arith)
-count_set (None ∷ peers) zero i a l = omega (arith, count_none peers, count_some i peers)
-count_set (Some j ∷ peers) zero i a l = absurd (false≢true (sym a))
-count_set (None ∷ peers) (suc q) i a l =
-    omega (arith, count_none peers, count_none (set peers q (Some i)), count_set peers q i a (omega arith))
-count_set (Some j ∷ peers) (suc q) i a l =
-    omega (arith, count_some j peers, count_some j (set peers q (Some i)), count_set peers q i a (omega arith))
+count_set (p ∷ peers) zero i a l =
+    omega (arith, count_more p peers, count_more (peer_under i) peers, ap (λ (t : Bool). cond {A = ℕ} t 1 0) (sym (some_present p) ∙ a))
+count_set (p ∷ peers) (suc q) i a l =
+    omega (arith, count_more p peers, count_more p (set peers q (peer_under i)), count_set peers q i a (omega arith))
 
 module _ (n x : ℕ) (x_low : x < n) (under : ℕ → Incarnation) (m : Message) (final : Node → Step) (Ready : ℕ → Node → Type 0) (need : ℕ)
     (takes : (q : ℕ) (node : Node) (items : List Item) → Ready q node → is_counted node q ≡ false
@@ -78,12 +76,12 @@ module _ (n x : ℕ) (x_low : x < n) (under : ℕ → Incarnation) (m : Message)
     counted_now = count_set (node_at before.table x).counted q (under q) absent long
 
     mark : peer_of (with_counted (node_at before.table x) q (under q)).counted q ≡ Some (under q)
-    unfolding with_counted peer_of
-    mark = get_or-set_same (node_at before.table x).counted q (Some (under q)) None long
+    unfolding with_counted
+    mark = peer_set_same (node_at before.table x).counted q (under q) long
 
     unmarked : (k : ℕ) → k ≢ q → peer_of (with_counted (node_at before.table x) q (under q)).counted k ≡ peer_of (node_at before.table x).counted k
-    unfolding with_counted peer_of
-    unmarked k d = get_or-set_other (node_at before.table x).counted q k (Some (under q)) None d
+    unfolding with_counted
+    unmarked k d = peer_set_other (node_at before.table x).counted q k (under q) d
 
     size : (node_at before.table x).n ≡ n
     size = size_is n x (node_at before.table x) (node_sound n before.table (group_table n before.table before.store G) x x_low)

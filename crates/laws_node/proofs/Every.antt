@@ -7,11 +7,11 @@ use mathlib.Core.Bool.{Bool, true}
 use mathlib.Core.List.{List, [], ◌∷◌}
 use lib.ListN.{length, set, replicate}
 use Rattle.item.proofs.Tests.{and_left, and_right, and_both}
-use Rattle.protocol.specs.Node.{count_peers}
+use Rattle.protocol.specs.Node.{peer_under, count_peers}
 use Rattle.protocol.specs.Sound.{every_from}
 use Rattle.item.specs.declared.counters.Incarnation.{Incarnation}
-use Rattle.std.specs.Prelude.{Option, Some, None}
-use Rattle.protocol.proofs.Counts.{count_none, count_some}
+use Rattle.protocol.specs.declared.Peer.{Peer}
+use Rattle.protocol.proofs.Counts.{count_more}
 
 module _ {A : Type 0} (t : ℕ → A → Bool) where
   pub every_set : (k : ℕ) (xs : List A) (i : ℕ) (x : A) → every_from t k xs ≡ true → ((j : ℕ) → j ≡ k + i → t j x ≡ true)
@@ -38,16 +38,13 @@ every_weaker t u h k (x ∷ xs) e =
     (every_weaker t u h (suc k) xs (and_right (t k x) (every_from t (suc k) xs) e))
 
 -- counting one peer adds at most one to the count
-pub one_more : (peers : List (Option Incarnation)) (q : ℕ) (i : Incarnation) → count_peers (set peers q (Some i)) ≤ suc (count_peers peers)
+pub one_more : (peers : List Peer) (q : ℕ) (i : Incarnation) → count_peers (set peers q (peer_under i)) ≤ suc (count_peers peers)
 one_more [] q i = omega arith
-one_more (None ∷ peers) zero i = omega (arith, count_none peers, count_some i peers)
-one_more (Some j ∷ peers) zero i = omega (arith, count_some j peers, count_some i peers)
-one_more (None ∷ peers) (suc q) i = omega (arith, count_none peers, count_none (set peers q (Some i)), one_more peers q i)
-one_more (Some j ∷ peers) (suc q) i = omega (arith, count_some j peers, count_some j (set peers q (Some i)), one_more peers q i)
+one_more (p ∷ peers) zero i = omega (arith, count_more p peers, count_more (peer_under i) peers)
+one_more (p ∷ peers) (suc q) i = omega (arith, count_more p peers, count_more p (set peers q (peer_under i)), one_more peers q i)
 
 -- and a list in which one is counted does not count to none
-pub not_none : (peers : List (Option Incarnation)) (q : ℕ) (i : Incarnation) → q < length peers → count_peers (set peers q (Some i)) ≡ 0 → ⊥
+pub not_none : (peers : List Peer) (q : ℕ) (i : Incarnation) → q < length peers → count_peers (set peers q (peer_under i)) ≡ 0 → ⊥
 not_none [] q i l z = omega arith
-not_none (peer ∷ peers) zero i l z = omega (arith, count_some i peers)
-not_none (None ∷ peers) (suc q) i l z = not_none peers q i (omega arith) (omega (arith, count_none (set peers q (Some i))))
-not_none (Some j ∷ peers) (suc q) i l z = omega (arith, count_some j (set peers q (Some i)))
+not_none (p ∷ peers) zero i l z = omega (arith, count_more (peer_under i) peers)
+not_none (p ∷ peers) (suc q) i l z = not_none peers q i (omega arith) (omega (arith, count_more p (set peers q (peer_under i))))

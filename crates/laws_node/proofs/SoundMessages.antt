@@ -17,12 +17,13 @@ use Rattle.item.specs.declared.counters.Incarnation.{Incarnation}
 use Rattle.item.specs.declared.Item.{Item}
 use Rattle.protocol.specs.Fetching.{with_table, none_counted, has_conflict, written_back}
 use Rattle.protocol.specs.Merge.{merge_rows}
-use Rattle.protocol.specs.Node.{no_peers, half, own_item, stored_row, peer_of, count_peers, with_row, with_rows, with_counted, confirming_begun, write_ended}
+use Rattle.protocol.specs.Node.{no_peers, peer_under, half, own_item, stored_row, peer_of, count_peers, with_row, with_rows, with_counted, confirming_begun, write_ended}
 use Rattle.protocol.specs.Phase.{is_fetching, is_up, is_storing, is_confirming, at_stage}
 use Rattle.protocol.specs.Sound.{every_from, row_use, row_sound, stage_counts, phase_counts, attempt_fits, counted_asked}
 use Rattle.protocol.specs.Storing.{asked_under}
 use Rattle.protocol.specs.declared.Node.{Node}
-use Rattle.std.specs.Prelude.{Option, Some, is_some}
+use Rattle.protocol.specs.declared.Peer.{Peer}
+use Rattle.std.specs.Prelude.{Option, is_some}
 use Rattle.protocol.specs.declared.Phase.TheVariants.{Returning}
 use Rattle.protocol.specs.declared.RowUse.{RowUse}
 use Rattle.protocol.specs.declared.RowUse.TheVariants as row_uses
@@ -60,7 +61,7 @@ module _ (n k : ℕ) (node : Node) (S : Soundly n k node) (s : ℕ) (l : s < n) 
         → Soundly n k (with_counted node s i)
     unfolding with_counted row_use phase_counts stage_counts counted_asked
     stored_counted_lem e few =
-        let c : ℕ = count_peers (set node.counted s (Some i)) in
+        let c : ℕ = count_peers (set node.counted s (peer_under i)) in
         let less : ltb c (half n) ≡ true = subst (λ (m : ℕ). ltb c (half m) ≡ true) S.size_is few in
         record {
           number_is = S.number_is;
@@ -76,7 +77,7 @@ module _ (n k : ℕ) (node : Node) (S : Soundly n k node) (s : ℕ) (l : s < n) 
               (λ h. and_both less (and_right (ltb (count_peers node.counted) (half n)) (eqb (count_peers node.asked) 0) h))
               (λ h. and_both less (and_right (ltb (count_peers node.counted) (half n)) (eqb (count_peers node.asked) 0) h))
               node.phase e S.counts_fit;
-          among = storing_cases (λ p. counted_asked p (set node.counted s (Some i)) node.asked ≡ true) refl refl node.phase e;
+          among = storing_cases (λ p. counted_asked p (set node.counted s (peer_under i)) node.asked ≡ true) refl refl node.phase e;
         }
 
     -- the f-th Stored: the f counted are asked
@@ -84,7 +85,7 @@ module _ (n k : ℕ) (node : Node) (S : Soundly n k node) (s : ℕ) (l : s < n) 
         → Soundly n k (asking node s i)
     unfolding with_counted confirming_begun attempt_fits row_use phase_counts stage_counts counted_asked at_stage
     asking_sound e full f =
-        let peers : List (Option Incarnation) = set node.counted s (Some i) in
+        let peers : List Peer = set node.counted s (peer_under i) in
         let many : ltb (count_peers peers) (half n) ≡ false = subst (λ (m : ℕ). ltb (count_peers peers) (half m) ≡ false) S.size_is full in
         let less : ltb (count_peers node.counted) (half n) ≡ true = storing_cases
         (λ p. phase_counts p (half n) (count_peers node.counted) (count_peers node.asked) ≡ true → ltb (count_peers node.counted) (half n) ≡ true)
@@ -116,7 +117,7 @@ module _ (n k : ℕ) (node : Node) (S : Soundly n k node) (s : ℕ) (l : s < n) 
         → ltb (count_peers (with_counted node s i).counted) (half node.n) ≡ true → Soundly n k (with_counted node s i)
     unfolding with_counted row_use phase_counts stage_counts counted_asked asked_under
     confirmed_counted_lem e under few =
-        let peers : List (Option Incarnation) = set node.counted s (Some i) in
+        let peers : List Peer = set node.counted s (peer_under i) in
         let less : ltb (count_peers peers) (half n) ≡ true = subst (λ (m : ℕ). ltb (count_peers peers) (half m) ≡ true) S.size_is few in
         let in_asked : is_some (peer_of node.asked s) ≡ true
         = ap (λ (p : Option Incarnation). is_some p) (asked_peer (peer_of node.asked s) i under) in
@@ -173,7 +174,7 @@ module _ (n k : ℕ) (node : Node) (S : Soundly n k node) (s : ℕ) (l : s < n) 
           → Soundly n k (with_table node s i items)
       unfolding with_table with_rows with_counted row_use phase_counts counted_asked
       table_counted there few =
-          let peers : List (Option Incarnation) = set node.counted s (Some i) in
+          let peers : List Peer = set node.counted s (peer_under i) in
           let less : ltb (count_peers peers) (suc (half n)) ≡ true = subst (λ (m : ℕ). ltb (count_peers peers) (suc (half m)) ≡ true) S.size_is few in
           let used : eqb (count_peers peers) 0 ≡ false = ne_eqb (count_peers peers) 0 (not_none node.counted s i there) in
           record {

@@ -9,7 +9,7 @@ use mathlib.Core.List.{List}
 use lib.Dec.{ltb}
 use lib.ListN.{set}
 use borrow.Author.Tests.{lt-ltb, eqb-true, eq-eqb, ne_eqb}
-use Rattle.item.specs.Counter.{same_attempt}
+use Rattle.item.specs.Counter.{same_incarnation, same_attempt}
 use Rattle.item.specs.Maxima.{max_nodes}
 use Rattle.item.specs.Row.{zero_row}
 use Rattle.item.proofs.Tests.{and_left, and_right, and_both}
@@ -17,11 +17,12 @@ use Rattle.item.specs.declared.counters.Attempt.{Attempt}
 use Rattle.item.specs.declared.counters.Incarnation.{Incarnation}
 use Rattle.item.specs.declared.Item.{Item}
 use Rattle.item.specs.declared.Row.{Row}
-use Rattle.protocol.specs.Node.{no_peers, half, stored_row, peer_of, count_peers, blank_node, crashed, started, storing_begun}
+use Rattle.protocol.specs.Node.{no_peer, no_peers, peer_under, half, stored_row, peer_of, count_peers, blank_node, crashed, started, storing_begun}
 use Rattle.protocol.specs.Phase.{is_storing}
 use Rattle.protocol.specs.Sound.{every_from, row_use, row_sound, peer_sound, stage_counts, phase_counts, attempt_fits, among_asked, counted_asked, rows_sound, peers_sound, sound_node}
 use Rattle.protocol.specs.declared.Node.{Node}
-use Rattle.std.specs.Prelude.{Option, Some, None, is_some}
+use Rattle.protocol.specs.declared.Peer.{Peer}
+use Rattle.std.specs.Prelude.{is_some}
 use Rattle.protocol.specs.declared.Phase.{Phase}
 use Rattle.protocol.specs.declared.RowUse.{RowUse}
 use Rattle.protocol.specs.declared.RowUse.TheVariants as row_uses
@@ -80,14 +81,14 @@ row_set n rows q item i a l h =
     every_set (row_sound row_uses.Stored n) 0 rows q (stored_row item i a) h (λ j d. stored_sound n j item i a (omega arith))
 
 pub none_sound : (k n : ℕ) → peers_sound k n no_peers ≡ true
-unfolding peers_sound peer_sound
-none_sound k n = every_same (peer_sound k n) None (λ j. refl) max_nodes 0
+unfolding peers_sound peer_sound same_incarnation
+none_sound k n = every_same (peer_sound k n) no_peer (λ j. refl) max_nodes 0
 
-pub peer_set : (k n : ℕ) (peers : List (Option Incarnation)) (q : ℕ) (i : Incarnation) → q < n → q ≢ k → peers_sound k n peers ≡ true
-    → peers_sound k n (set peers q (Some i)) ≡ true
+pub peer_set : (k n : ℕ) (peers : List Peer) (q : ℕ) (i : Incarnation) → q < n → q ≢ k → peers_sound k n peers ≡ true
+    → peers_sound k n (set peers q (peer_under i)) ≡ true
 unfolding peers_sound peer_sound
 peer_set k n peers q i l d h =
-    every_set (peer_sound k n) 0 peers q (Some i) h
+    every_set (peer_sound k n) 0 peers q (peer_under i) h
     (λ j e. and_both (lt-ltb j n (omega arith)) (ap not (ne_eqb j k (λ (z : j ≡ k). d (same q j k e z)))))
   where
     same : (q j k : ℕ) → j ≡ 0 + q → j ≡ k → q ≡ k
@@ -98,16 +99,16 @@ unfolding count_peers
 none_fewer n f = lt-ltb 0 (half n) f
 
 -- nobody counted is among any
-pub none_among : (asked : List (Option Incarnation)) → every_from (among_asked asked) 0 no_peers ≡ true
+pub none_among : (asked : List Peer) → every_from (among_asked asked) 0 no_peers ≡ true
 unfolding among_asked
-none_among asked = every_same (among_asked asked) None (λ j. refl) max_nodes 0
+none_among asked = every_same (among_asked asked) no_peer (λ j. refl) max_nodes 0
 
 -- one more is counted, who was asked
-pub among_set : (asked counted : List (Option Incarnation)) (s : ℕ) (i : Incarnation) → is_some (peer_of asked s) ≡ true
-    → every_from (among_asked asked) 0 counted ≡ true → every_from (among_asked asked) 0 (set counted s (Some i)) ≡ true
+pub among_set : (asked counted : List Peer) (s : ℕ) (i : Incarnation) → is_some (peer_of asked s) ≡ true
+    → every_from (among_asked asked) 0 counted ≡ true → every_from (among_asked asked) 0 (set counted s (peer_under i)) ≡ true
 unfolding among_asked
 among_set asked counted s i h e =
-    every_set (among_asked asked) 0 counted s (Some i) e
+    every_set (among_asked asked) 0 counted s (peer_under i) e
     (λ j z. let same : s ≡ j = omega arith in subst (λ (q : ℕ). is_some (peer_of asked q) ≡ true) same h)
 
 -- ---- Down, and Fetching before the first table

@@ -2,9 +2,9 @@
 use Prim.Native.Nat.{ℕ, zero, suc, ◌+◌, ◌<◌}
 use native.Mathlib.Omega.{arith}
 use native.Mathlib.Nat.{zero-add}
-use mathlib.Core.Path.{◌≡◌, refl, sym, subst, ◌∙◌}
+use mathlib.Core.Path.{◌≡◌, refl, sym, ap, ◌∙◌}
 use mathlib.Core.Logic.{◌≢◌}
-use mathlib.Core.Bool.{Bool, true, false}
+use mathlib.Core.Bool.{Bool, true, false, not, ◌&&◌}
 use mathlib.Core.List.{List, [], ◌∷◌, Memᴰ}
 use lib.Dec.{eqb, ltb}
 use borrow.Author.Tests.{eqb-false, not-true}
@@ -13,9 +13,10 @@ use Rattle.item.specs.declared.Tag.{Tag}
 use Rattle.message.specs.declared.Envelope.{Envelope}
 use Rattle.message.specs.declared.Message.{Message}
 use Rattle.message.specs.declared.Message.TheVariants as message
-use Rattle.std.specs.Prelude.{Option, Some}
+use Rattle.std.specs.Prelude.{Option, Some, is_some}
 use Rattle.item.specs.declared.counters.Incarnation.{Incarnation}
 use Rattle.returns.proofs.ViewLaws.{clash}
+use Rattle.protocol.proofs.Counts.{some_present}
 use Rattle.protocol.proofs.Sending.{each_nothing, each_other, each_back, each_asked}
 use Rattle.protocol.specs.Answer.{ok, refused}
 use Rattle.protocol.specs.Node.{peer_of}
@@ -23,6 +24,7 @@ use Rattle.protocol.specs.Outgoing.{envelope_to, outgoing}
 use Rattle.protocol.specs.Sound.{every_from, peer_sound, peers_sound, sound_node}
 use Rattle.protocol.specs.Write.{send_store, send_fetch, write_step, retry_step, crash_step, start_step}
 use Rattle.protocol.specs.declared.Node.{Node}
+use Rattle.protocol.specs.declared.Peer.{Peer}
 use Rattle.protocol.specs.declared.Refusal.{Refusal}
 use Rattle.protocol.specs.declared.Sends.{Sends}
 use Rattle.protocol.specs.declared.Sends.TheVariants as sends
@@ -31,13 +33,14 @@ use Rattle.protocol.proofs.Cases.{write_cases, retry_cases, crash_cases, start_c
 use Rattle.protocol.proofs.InView.{number_is, size_is}
 
 -- a peer of a sound list is another node
-peer_other : (k n at : ℕ) (peers : List (Option Incarnation)) (to : ℕ) (o : Incarnation) → every_from (peer_sound k n) at peers ≡ true
+peer_other : (k n at : ℕ) (peers : List Peer) (to : ℕ) (o : Incarnation) → every_from (peer_sound k n) at peers ≡ true
     → peer_of peers to ≡ Some o → at + to ≢ k
 unfolding every_from peer_sound peer_of
 peer_other k n at [] to o e p z = clash (cc)
 peer_other k n at (q ∷ peers) zero o e p z =
-    let s : peer_sound k n at (Some o) ≡ true =
-    subst (λ (r : Option Incarnation). peer_sound k n at r ≡ true) p (and_left (peer_sound k n at q) (every_from (peer_sound k n) (suc at) peers) e) in
+    let there : q.present ≡ true = sym (some_present q) ∙ ap (λ (r : Option Incarnation). is_some r) p in
+    let s : (ltb at n && not (eqb at k)) ≡ true =
+    rw there at (and_left (peer_sound k n at q) (every_from (peer_sound k n) (suc at) peers) e) in
     eqb-false at k (not-true (eqb at k) (and_right (ltb at n) _ s)) (omega arith)
 peer_other k n at (q ∷ peers) (suc to) o e p z =
     peer_other k n (suc at) peers to o (and_right (peer_sound k n at q) (every_from (peer_sound k n) (suc at) peers) e) p (omega arith)

@@ -5,7 +5,7 @@ ghost use Rattle.protocol.specs.Node.{half as f, peer_of, count_peers};
 ghost use Rattle.protocol.specs.Storing.{is_counted};
 
 use item::Incarnation;
-use protocol::Node;
+use protocol::{Node, Peer};
 
 // f, of a group of n = 2f + 1.
 #[tactic(auto, unfolding(protocol::specs::Node::half))]
@@ -17,18 +17,19 @@ pub fn half(n: usize) -> usize
 
 // The incarnation under which this peer is counted, or asked, if it is; past the last, none.
 #[tactic(auto, unfolding(protocol::specs::Node::peer_of))]
-pub fn peer_of(peers: &[Option<Incarnation>; item::MAX_NODES], number: usize) -> Option<Incarnation>
+pub fn peer_of(peers: &[Peer; item::MAX_NODES], number: usize) -> Option<Incarnation>
     ensures { result ≡ peer_of peers.now number }
 {
-    peers.get(number).copied().flatten()
+    let peer = peers.get(number)?;
+    peer.present.then_some(peer.incarnation)
 }
 
 // How many peers are counted, or asked.
 #[tactic(auto, unfolding(protocol::specs::Node::count_peers))]
-pub fn count_peers(peers: &[Option<Incarnation>; item::MAX_NODES]) -> usize
+pub fn count_peers(peers: &[Peer; item::MAX_NODES]) -> usize
     ensures { result ≡ count_peers peers.now }
 {
-    peers.iter().filter(|peer| peer.is_some()).count()
+    peers.iter().filter(|peer| peer.present).count()
 }
 
 // Whether the sender is counted.

@@ -4,7 +4,7 @@ ghost use Rattle.std.specs.Prelude.{◌≡◌};
 ghost use Rattle.protocol.specs.Node.{with_row, with_counted, with_rows};
 
 use item::{Incarnation, Row};
-use protocol::Node;
+use protocol::{Node, Peer};
 
 // One row is replaced; past the last row nothing is.
 #[tactic(auto, unfolding(protocol::specs::Node::with_row))]
@@ -23,7 +23,10 @@ pub fn with_counted(mut node: Node, sender: usize, incarnation: Incarnation) -> 
     ensures { result ≡ with_counted node sender incarnation }
 {
     if sender < item::MAX_NODES {
-        node.counted[sender] = Some(incarnation);
+        node.counted[sender] = Peer {
+            present: true,
+            incarnation,
+        };
     }
     node
 }

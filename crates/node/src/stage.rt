@@ -4,7 +4,7 @@ ghost use Rattle.protocol.specs.Node.{storing_begun, confirming_begun, write_end
 
 use crate::rows::with_row;
 use item::{Attempt, Item, Row};
-use protocol::{Node, Phase, Stage};
+use protocol::{Node, Peer, Phase, Stage};
 
 // A write begins or begins again: the own row takes the item with these counters, and nobody is counted or asked.
 #[tactic(auto, unfolding(protocol::specs::Node::storing_begun, protocol::specs::Node::with_row))]
@@ -20,8 +20,8 @@ pub fn storing_begun(node: Node, phase: Phase, attempt: Attempt, item: Item) -> 
     Node {
         attempt,
         phase,
-        counted: [None; item::MAX_NODES],
-        asked: [None; item::MAX_NODES],
+        counted: [Peer::none(); item::MAX_NODES],
+        asked: [Peer::none(); item::MAX_NODES],
         ..with_row(node, node.number, row)
     }
 }
@@ -34,7 +34,7 @@ pub fn confirming_begun(node: Node, phase: Phase) -> Node
     let asked = node.counted;
     Node {
         phase,
-        counted: [None; item::MAX_NODES],
+        counted: [Peer::none(); item::MAX_NODES],
         asked,
         ..node
     }
@@ -47,8 +47,8 @@ pub fn write_ended(node: Node) -> Node
 {
     Node {
         phase: Phase::Up(Stage::Idle),
-        counted: [None; item::MAX_NODES],
-        asked: [None; item::MAX_NODES],
+        counted: [Peer::none(); item::MAX_NODES],
+        asked: [Peer::none(); item::MAX_NODES],
         ..node
     }
 }

@@ -1,44 +1,55 @@
 -- A node that is Up, Idle and at rest is sound exactly if its rows are (`rest_sound`), and these are exactly if the numbers in
 -- the rows from n on are zero (`rest_unused`).
 use Prim.Native.Nat.{ℕ, suc, ◌-◌, ◌<◌, ◌≤◌}
-use mathlib.Core.Path.{◌≡◌, refl, ap, ◌∙◌}
-use mathlib.Core.Bool.{Bool, true, false, not, ◌&&◌, and-true}
+use mathlib.Core.Path.{◌≡◌, refl, ap}
+use mathlib.Core.Bool.{Bool, true, false, cond, not, ◌&&◌, and-true}
 use mathlib.Core.List.{List, [], ◌∷◌}
 use native.Mathlib.Decide.{dec_lt}
 use native.Mathlib.Omega.{arith}
 use borrow.Author.Tests.{eq-eqb, lt-ltb, le-ltb, not-true}
 use lib.ListN.{drop, drop_of_length-le}
-use Rattle.std.specs.Prelude.{Option, None, Some}
 use Rattle.std.specs.List.{list_all}
 use Rattle.item.proofs.Tests.{and_left, and_right}
 use Rattle.item.specs.declared.counters.Attempt.{Attempt}
-use Rattle.item.specs.declared.counters.Incarnation.{Incarnation}
 use Rattle.item.specs.declared.Row.{Row}
-use Rattle.item.specs.Counter.{same_attempt}
+use Rattle.item.specs.Counter.{same_incarnation, same_attempt}
 use Rattle.item.specs.Row.{same_row}
 use Rattle.protocol.specs.declared.Node.{Node}
+use Rattle.protocol.specs.declared.Peer.{Peer}
 use Rattle.protocol.specs.declared.Phase.{Phase}
 use Rattle.protocol.specs.declared.RowUse.TheVariants.{Stored}
 use Rattle.protocol.specs.Node.{half, count_peers}
 use Rattle.protocol.specs.Phase.{is_up_idle}
-use Rattle.protocol.proofs.Counts.{count_none}
+use Rattle.protocol.proofs.Counts.{count_more}
 use Rattle.protocol.proofs.Phases.{up_idle_is}
 use Rattle.protocol.specs.Sound.{every_from, row_use, row_fits, row_sound, rows_sound, peer_sound, peers_sound, stage_counts, phase_counts, attempt_fits, counted_asked, sound_node}
 use Rattle.node_sound.specs.Rest.{unmarked, absent, at_rest, numbers_zero, unused_zero}
 
 -- ---- peers of whom nobody is counted or asked
 
-absent_sound : (number n k : ℕ) (peers : List (Option Incarnation)) → list_all absent peers ≡ true → every_from (peer_sound number n) k peers ≡ true
+absent_not : (peer : Peer) → absent peer ≡ true → peer.present ≡ false
+absent_not peer e = not-true peer.present (and_left (not peer.present) (same_incarnation peer.incarnation (record { 0 = 0 })) e)
+
+absent_zero : (peer : Peer) → absent peer ≡ true → same_incarnation peer.incarnation (record { 0 = 0 }) ≡ true
+absent_zero peer e = and_right (not peer.present) (same_incarnation peer.incarnation (record { 0 = 0 })) e
+
+absent_sound : (number n k : ℕ) (peers : List Peer) → list_all absent peers ≡ true → every_from (peer_sound number n) k peers ≡ true
 unfolding every_from peer_sound
 absent_sound number n k [] e = refl
-absent_sound number n k (None ∷ peers) e = absent_sound number n (suc k) peers e
-absent_sound number n k (Some i ∷ peers) e = cc
+absent_sound number n k (peer ∷ peers) e =
+    let one = and_left (absent peer) (list_all absent peers) e in
+    rw (absent_not peer one, absent_zero peer one) (absent_sound number n (suc k) peers (and_right (absent peer) (list_all absent peers) e))
 
-absent_count : (peers : List (Option Incarnation)) → list_all absent peers ≡ true → count_peers peers ≡ 0
+absent_count : (peers : List Peer) → list_all absent peers ≡ true → count_peers peers ≡ 0
 unfolding count_peers
 absent_count [] e = refl
-absent_count (None ∷ peers) e = count_none peers ∙ absent_count peers e
-absent_count (Some i ∷ peers) e = cc
+absent_count (peer ∷ peers) e =
+    omega (
+      arith,
+      count_more peer peers,
+      ap (λ (t : Bool). cond {A = ℕ} t 1 0) (absent_not peer (and_left (absent peer) (list_all absent peers) e)),
+      absent_count peers (and_right (absent peer) (list_all absent peers) e),
+    )
 
 -- ---- rows: of a row that is not marked nothing is left to look at but the numbers, and these from n on
 
@@ -87,7 +98,7 @@ module _ (phase : Phase) (idle : is_up_idle phase ≡ true) where
   unfolding phase_counts stage_counts
   counts_nobody f = rw (up_idle_is phase idle, eq-eqb 0 0 refl)
 
-  asks_nobody : (counted asked : List (Option Incarnation)) → counted_asked phase counted asked ≡ true
+  asks_nobody : (counted asked : List Peer) → counted_asked phase counted asked ≡ true
   unfolding counted_asked
   asks_nobody counted asked = rw (up_idle_is phase idle)
 

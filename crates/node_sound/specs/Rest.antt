@@ -1,18 +1,18 @@
 -- When a node is at rest: no row is marked, and nobody is counted or asked. And when no row from n on has a number but 0.
-use Rattle.std.specs.Prelude.{ℕ, Bool, not, ◌&&◌, List, Option, is_some, drop, bit_or}
+use Rattle.std.specs.Prelude.{ℕ, Bool, not, ◌&&◌, List, drop, bit_or}
 use Rattle.std.specs.List.{list_all}
 use Rattle.item.specs.Counter.{same_incarnation, same_attempt}
 use Rattle.item.specs.Item.{zero_item, same_item}
-use Rattle.item.specs.declared.counters.Incarnation.{Incarnation}
 use Rattle.item.specs.declared.Row.{Row}
 use Rattle.protocol.specs.declared.Node.{Node}
+use Rattle.protocol.specs.declared.Peer.{Peer}
 
 abbrev pub unmarked : Row → Bool
 unmarked row = not row.marked
 
--- neither counted nor asked
-abbrev pub absent : Option Incarnation → Bool
-absent peer = not (is_some peer)
+-- neither counted nor asked, "unused fields zero"
+abbrev pub absent : Peer → Bool
+absent peer = not peer.present && same_incarnation peer.incarnation (record { 0 = 0 })
 
 unfoldable pub at_rest : Node → Bool
 at_rest node = (list_all unmarked node.rows && list_all absent node.counted) && list_all absent node.asked

@@ -5,7 +5,7 @@ ghost use Rattle.std.specs.List.{list_all};
 ghost use Rattle.node_sound.specs.Rest.{unmarked, absent, at_rest, numbers_zero, row_bits, unused_zero};
 
 use item::{Incarnation, Row};
-use protocol::Node;
+use protocol::{Node, Peer};
 
 // Whether no row is marked and nobody is counted or asked.
 #[tactic(auto, unfolding(crate::specs::Rest::at_rest))]
@@ -24,18 +24,18 @@ fn no_marks(rows: &[Row; item::MAX_NODES]) -> bool
 }
 
 // Whether nobody is among these peers.
-fn no_peers(peers: &[Option<Incarnation>; item::MAX_NODES]) -> bool
+fn no_peers(peers: &[Peer; item::MAX_NODES]) -> bool
     ensures { result ≡ list_all absent peers.now }
 {
     peers.iter().fold(true, |all, peer| all & is_absent(peer))
 }
 
-// Whether the peer is neither counted nor asked.
-// Kept: `matches!` and not `is_none`, which asks for the other variant: with it the compiler tests each peer by itself.
-fn is_absent(peer: &Option<Incarnation>) -> bool
+// Whether the peer is neither counted nor asked, and nothing is kept of it.
+#[tactic(auto, unfolding(item::specs::Counter::same_incarnation))]
+fn is_absent(peer: &Peer) -> bool
     ensures { result ≡ absent peer.now }
 {
-    matches!(peer, None)
+    !peer.present & (peer.incarnation == Incarnation(0))
 }
 
 // Whether the numbers in every row from n on are zero. Marks are not looked at: a node at rest has none.

@@ -11,7 +11,7 @@ use fast::{is_at_rest, unused_zero};
 use item::{Attempt, Incarnation};
 use node::{count_peers, half, peer_of};
 use phase::{is_confirming, is_up_idle};
-use protocol::{Node, Phase, Stage};
+use protocol::{Node, Peer, Phase, Stage};
 use rows::rows_sound;
 
 // Whether the node is sound at this place of the table of a group of n. Most nodes are Up, Idle and at rest, and these are
@@ -58,7 +58,7 @@ fn attempt_fits(phase: Phase, attempt: Attempt) -> bool
 
 // Whether each of the peers may be counted or asked.
 #[tactic(auto, unfolding(protocol::specs::Sound::peers_sound))]
-fn peers_sound(number: usize, n: usize, peers: &[Option<Incarnation>; item::MAX_NODES]) -> bool
+fn peers_sound(number: usize, n: usize, peers: &[Peer; item::MAX_NODES]) -> bool
     ensures { result ≡ peers_sound number n peers.now }
 {
     peers
@@ -68,14 +68,14 @@ fn peers_sound(number: usize, n: usize, peers: &[Option<Incarnation>; item::MAX_
 }
 
 // Whether peer k may be counted or asked by the node of this number, or is noted not to be.
-#[tactic(auto, unfolding(protocol::specs::Sound::peer_sound))]
-fn peer_sound(number: usize, n: usize, k: usize, peer: Option<Incarnation>) -> bool
+#[tactic(auto, unfolding(protocol::specs::Sound::peer_sound, item::specs::Counter::same_incarnation))]
+fn peer_sound(number: usize, n: usize, k: usize, peer: Peer) -> bool
     ensures { result ≡ peer_sound number n k peer }
 {
-    match peer {
-        None => true,
-        Some(_) => k < n && k != number,
+    if !peer.present {
+        return peer.incarnation == Incarnation(0);
     }
+    k < n && k != number
 }
 
 // Whether so many may be counted and asked in this phase.
@@ -106,8 +106,8 @@ fn stage_counts(stage: Stage, f: usize, counted: usize, asked: usize) -> bool
 #[tactic(auto, unfolding(protocol::specs::Sound::counted_asked))]
 fn counted_asked(
     phase: Phase,
-    counted: &[Option<Incarnation>; item::MAX_NODES],
-    asked: &[Option<Incarnation>; item::MAX_NODES],
+    counted: &[Peer; item::MAX_NODES],
+    asked: &[Peer; item::MAX_NODES],
 ) -> bool
     ensures { result ≡ counted_asked phase counted.now asked.now }
 {
@@ -122,12 +122,8 @@ fn counted_asked(
 
 // Whether peer k is asked, if it is counted.
 #[tactic(auto, unfolding(protocol::specs::Sound::among_asked))]
-fn among_asked(
-    asked: &[Option<Incarnation>; item::MAX_NODES],
-    k: usize,
-    peer: Option<Incarnation>,
-) -> bool
+fn among_asked(asked: &[Peer; item::MAX_NODES], k: usize, peer: Peer) -> bool
     ensures { result ≡ among_asked asked.now k peer }
 {
-    peer.is_none() || peer_of(asked, k).is_some()
+    !peer.present || peer_of(asked, k).is_some()
 }

@@ -28,7 +28,7 @@ use Rattle.record.specs.Layout.{index_size}
 use Rattle.record.specs.RoundTrip.{ItemFits}
 use Rattle.protocol.specs.Answer.{ok, refused}
 use Rattle.protocol.specs.Merge.{merge_row, merge_rows}
-use Rattle.protocol.specs.Node.{no_peers, zero_rows, row_of, own_item, stored_row, peer_of, blank_node, crashed, started, storing_begun, write_ended}
+use Rattle.protocol.specs.Node.{no_peer, no_peers, zero_rows, row_of, own_item, stored_row, blank_node, crashed, started, storing_begun, write_ended}
 use Rattle.protocol.specs.Phase.{is_down, is_up_idle, is_fetching}
 use Rattle.protocol.specs.Write.{send_store, send_fetch, next_item, written, write_at_largest, write_step, retried, nothing_to_retry, retry_step, crash_step, start_step}
 use Rattle.protocol.specs.declared.Node.{Node}
@@ -36,7 +36,6 @@ use Rattle.protocol.specs.declared.Phase.{Phase}
 use Rattle.protocol.specs.declared.Refusal.{Refusal}
 use Rattle.protocol.specs.declared.Sends.{Sends}
 use Rattle.protocol.specs.declared.Sends.TheVariants as sends
-use Rattle.std.specs.Prelude.{Option, None}
 use Rattle.protocol.specs.declared.Step.{Step}
 use Rattle.operations.specs.Fits.{CounterFits, PeerFits, NodeFits}
 
@@ -122,9 +121,8 @@ merged_fit first (row ∷ rows) (item ∷ items) r h (suc i) = merged_fit first 
 
 -- ---- nodes
 
-pub none_fits : (i : ℕ) → PeerFits (peer_of no_peers i)
-unfolding peer_of
-none_fits i = rw (get_or_same {A = Option Incarnation} max_nodes i None) tt
+pub none_fits : (i : ℕ) → PeerFits (get_or no_peers i no_peer)
+none_fits i = rw (get_or_same max_nodes i no_peer) (omega arith)
 
 zeros_fit : (i : ℕ) → ItemFits (get_or zero_rows i zero_row).item
 zeros_fit i = rw (get_or_same max_nodes i zero_row) zero_fits

@@ -25,12 +25,12 @@ use Rattle.protocol.specs.Deliver.{on_message, deliver_step}
 use Rattle.protocol.specs.Fetching.{on_fetch, on_table, table_counted, with_table, none_counted, stopped, written_back}
 use Rattle.protocol.proofs.Cases.{recover_cases}
 use Rattle.protocol.specs.Merge.{merge_rows}
-use Rattle.protocol.specs.Node.{row_of, own_item, stored_row, peer_of, blank_node, crashed, with_row, with_counted, confirming_begun, write_ended, with_rows, below_half, at_most_half, own_incarnation}
+use Rattle.protocol.specs.Node.{no_peer, peer_under, row_of, own_item, stored_row, blank_node, crashed, with_row, with_counted, confirming_begun, write_ended, with_rows, below_half, at_most_half, own_incarnation}
 use Rattle.protocol.specs.Phase.{is_up, is_fetching, is_storing, is_confirming}
 use Rattle.protocol.specs.Storing.{store_verdict, reply_store, on_store, own_write, is_counted, send_confirm, stored_counted, on_stored, stored_under, on_confirm, asked_under, store_success, confirmed_counted, on_confirmed}
 use Rattle.protocol.specs.declared.Node.{Node}
 use Rattle.protocol.specs.declared.Refusal.{Refusal}
-use Rattle.std.specs.Prelude.{Some, None, Ok, Err}
+use Rattle.std.specs.Prelude.{Ok, Err}
 use Rattle.std.specs.Prelude.{Result}
 use Rattle.protocol.specs.declared.Phase.{Phase}
 use Rattle.protocol.specs.declared.Phase.TheVariants.{Returning}
@@ -41,13 +41,13 @@ use Rattle.protocol.specs.declared.Step.{Step}
 
 module _ (node : Node) (N : NodeFits node) (sender : ℕ) (i : Incarnation) (I : CounterFits i.0) where
   counted_fits : NodeFits (with_counted node sender i)
-  unfolding with_counted row_of peer_of
+  unfolding with_counted row_of
   counted_fits =
       record {
         incarnation_fits = N.incarnation_fits;
         attempt_fits = N.attempt_fits;
         items_fit = N.items_fit;
-        counted_fit = set_any PeerFits node.counted sender (Some i) None I N.counted_fit;
+        counted_fit = set_any PeerFits node.counted sender (peer_under i) no_peer I N.counted_fit;
         asked_fit = N.asked_fit;
       }
 

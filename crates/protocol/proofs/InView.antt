@@ -17,16 +17,16 @@ use Rattle.returns.specs.View.{View, Sent, Each}
 use Rattle.protocol.specs.Node.{half, peer_of}
 use Rattle.protocol.specs.Sound.{sound_node}
 use Rattle.protocol.specs.declared.Node.{Node}
-use Rattle.item.specs.declared.counters.Incarnation.{Incarnation}
-use Rattle.std.specs.Prelude.{Option, is_some}
+use Rattle.protocol.specs.declared.Peer.{Peer}
+use Rattle.std.specs.Prelude.{is_some}
 use Rattle.protocol.proofs.Seen.{seen, seen_message}
 use Rattle.protocol.specs.Shaped.{Shaped}
 
 -- "below n, not itself"
-abbrev pub Others : ℕ → ℕ → List (Option Incarnation) → Type 0
+abbrev pub Others : ℕ → ℕ → List Peer → Type 0
 Others n k peers = (q : ℕ) → is_some (peer_of peers q) ≡ true → (q < n) × (q ≢ k)
 
-pub none_beyond : (n k : ℕ) (peers : List (Option Incarnation)) → Others n k peers → (q : ℕ) → n ≤ q → is_some (peer_of peers q) ≡ false
+pub none_beyond : (n k : ℕ) (peers : List Peer) → Others n k peers → (q : ℕ) → n ≤ q → is_some (peer_of peers q) ≡ false
 none_beyond n k peers o q l = go (is_some (peer_of peers q)) refl
   where
     go : (t : Bool) → is_some (peer_of peers q) ≡ t → is_some (peer_of peers q) ≡ false

@@ -16,10 +16,9 @@ use Rattle.returns.specs.History.{Note, quiet}
 use Rattle.returns.specs.Majority.{count, group_size}
 use Rattle.returns.specs.Replace.{replaced}
 use Rattle.returns.specs.View.{up, storing, live, ViewNode, View}
-use Rattle.protocol.specs.Node.{row_of, own_item, count_peers, storing_begun}
+use Rattle.protocol.specs.Node.{row_of, own_item, peer_under, count_peers, storing_begun}
 use Rattle.protocol.specs.declared.Node.{Node}
 use Rattle.protocol.specs.declared.Phase.{Phase}
-use Rattle.std.specs.Prelude.{Some}
 use Rattle.protocol.proofs.Counts.{none_present, count_group}
 use Rattle.protocol.proofs.InView.{InView, none_beyond}
 use Rattle.protocol.proofs.Seen.{seen, seen_phase, stage_in}
@@ -42,7 +41,7 @@ module _ {f n x k : ℕ} {g : View} {node : Node} (v : InView f n x k g node) wh
 
   -- with one more of the group, those counted are as many as the list counts
   pub counted_of_group : (q : ℕ) (i : Incarnation) → q < n
-      → count_peers (set node.counted q (Some i)) ≡ count (replaced (g.node k).counted q true) (group_size f)
+      → count_peers (set node.counted q (peer_under i)) ≡ count (replaced (g.node k).counted q true) (group_size f)
   counted_of_group q i l =
       let fits : n ≤ length node.counted = omega (arith, v.fits, v.placed.shaped.counted_length) in
       rw (v.view, ← v.size) (count_group n node.counted (none_beyond n k node.counted v.placed.counts_others) fits q i l)

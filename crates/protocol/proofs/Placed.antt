@@ -7,7 +7,6 @@ use mathlib.Core.Bool.{Bool, true, false, false≢true}
 use mathlib.Core.List.{List}
 use lib.Dec.{eqb}
 use lib.ListN.{set}
-use lib.Seq.{get_or-set_other}
 use borrow.Author.Tests.{eqb-true, eqb-false}
 use Rattle.item.specs.declared.counters.Attempt.{Attempt}
 use Rattle.item.specs.declared.counters.Incarnation.{Incarnation}
@@ -19,11 +18,12 @@ use Rattle.message.specs.declared.Message.TheVariants as message
 use Rattle.protocol.specs.Answer.{ok, refused}
 use Rattle.protocol.specs.Deliver.{on_message, deliver_step}
 use Rattle.protocol.specs.Fetching.{with_table, stopped, written_back}
-use Rattle.protocol.specs.Node.{no_peers, peer_of, blank_node, fresh_node, crashed, started, stored_row, storing_begun, with_row, with_rows, with_counted, confirming_begun, write_ended}
+use Rattle.protocol.specs.Node.{no_peers, peer_under, peer_of, blank_node, fresh_node, crashed, started, stored_row, storing_begun, with_row, with_rows, with_counted, confirming_begun, write_ended}
 use Rattle.protocol.specs.Storing.{send_confirm, store_success}
 use Rattle.protocol.specs.Write.{send_store, send_fetch, written, retried, write_step, retry_step, crash_step, start_step}
 use Rattle.protocol.specs.declared.Node.{Node}
-use Rattle.std.specs.Prelude.{Option, Some, None, is_some}
+use Rattle.protocol.specs.declared.Peer.{Peer}
+use Rattle.std.specs.Prelude.{Option, is_some}
 use Rattle.protocol.specs.declared.Phase.{Phase}
 use Rattle.protocol.specs.declared.Refusal.{Refusal}
 use Rattle.protocol.specs.declared.Sends.{Sends}
@@ -31,7 +31,7 @@ use Rattle.protocol.specs.declared.Sends.TheVariants as sends
 use Rattle.protocol.specs.declared.Step.{Step}
 use Rattle.protocol.specs.Shaped.{Shaped}
 use Rattle.protocol.proofs.Cases.{write_cases, retry_cases, crash_cases, start_cases, store_cases, stored_cases, confirm_cases, confirmed_cases, fetch_cases, table_cases}
-use Rattle.protocol.proofs.Counts.{none_present}
+use Rattle.protocol.proofs.Counts.{none_present, peer_set_other}
 use Rattle.protocol.proofs.InView.{Others, Placed}
 use Rattle.protocol.proofs.Shapes.{crashed_shaped, fresh_shaped, started_shaped, begun_shaped, row_shaped, counted_shaped, confirming_shaped, ended_shaped, table_shaped}
 
@@ -40,13 +40,12 @@ use Rattle.protocol.proofs.Shapes.{crashed_shaped, fresh_shaped, started_shaped,
 none_others : (n k : ℕ) → Others n k no_peers
 none_others n k q e = absurd (false≢true (sym (none_present q) ∙ e))
 
-set_others : (n k : ℕ) (peers : List (Option Incarnation)) (s : ℕ) (i : Incarnation) → Others n k peers → s < n → s ≢ k → Others n k (set peers s (Some i))
-unfolding peer_of
+set_others : (n k : ℕ) (peers : List Peer) (s : ℕ) (i : Incarnation) → Others n k peers → s < n → s ≢ k → Others n k (set peers s (peer_under i))
 set_others n k peers s i o l d q = go (eqb q s) refl
   where
-    go : (t : Bool) → eqb q s ≡ t → is_some (peer_of (set peers s (Some i)) q) ≡ true → (q < n) × (q ≢ k)
+    go : (t : Bool) → eqb q s ≡ t → is_some (peer_of (set peers s (peer_under i)) q) ≡ true → (q < n) × (q ≢ k)
     go true z e = rw (eqb-true q s z) (l, d)
-    go false z e = o q (subst (λ (p : Option Incarnation). is_some p ≡ true) (get_or-set_other peers s q (Some i) None (eqb-false q s z)) e)
+    go false z e = o q (subst (λ (p : Option Incarnation). is_some p ≡ true) (peer_set_other peers s q i (eqb-false q s z)) e)
 
 -- ---- the changes of a node
 

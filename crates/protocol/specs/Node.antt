@@ -1,6 +1,6 @@
 -- A node's fields, and every kind of change of a node, each by one definition. A change names only the fields that it
 -- changes; the others stay.
-use Rattle.std.specs.Prelude.{ℕ, suc, ◌/◌, Bool, false, List, map, ltb, get_or, set, replicate, count_by, Option, Some, None, is_some}
+use Rattle.std.specs.Prelude.{ℕ, suc, ◌/◌, Bool, true, false, List, map, ltb, get_or, set, replicate, count_by, cond, Option, Some, None}
 use Rattle.item.specs.Maxima.{max_nodes}
 use Rattle.item.specs.Counter.{next_incarnation, same_incarnation}
 use Rattle.item.specs.Row.{zero_row}
@@ -9,13 +9,22 @@ use Rattle.item.specs.declared.counters.Incarnation.{Incarnation}
 use Rattle.item.specs.declared.Item.{Item}
 use Rattle.item.specs.declared.Row.{Row}
 use Rattle.protocol.specs.declared.Node.{Node}
+use Rattle.protocol.specs.declared.Peer.{Peer}
 use Rattle.protocol.specs.declared.Phase.{Phase}
 use Rattle.protocol.specs.declared.Phase.TheVariants.{Down, Fetching, Up}
 use Rattle.protocol.specs.declared.Stage.TheVariants.{Idle}
 
+-- a peer that is neither counted nor asked
+abbrev pub no_peer : Peer
+no_peer = record { present = false; incarnation = record { 0 = 0 } }
+
+-- a peer that is, under this incarnation
+abbrev pub peer_under : Incarnation → Peer
+peer_under incarnation = record { present = true; incarnation = incarnation }
+
 -- nobody is counted, or asked
-abbrev pub no_peers : List (Option Incarnation)
-no_peers = replicate max_nodes None
+abbrev pub no_peers : List Peer
+no_peers = replicate max_nodes no_peer
 
 abbrev pub zero_rows : List Row
 zero_rows = replicate max_nodes zero_row
@@ -41,13 +50,17 @@ stored_row item incarnation attempt =
 abbrev pub rebuilt_row : Item → Row
 rebuilt_row item = stored_row item (record { 0 = 0 }) (record { 0 = 0 })
 
--- the incarnation under which peer i is counted, or asked, if it is
-unfoldable pub peer_of : List (Option Incarnation) → ℕ → Option Incarnation
-peer_of peers i = get_or peers i None
+-- the incarnation under which a peer is counted, or asked, if it is
+abbrev pub incarnation_if_present : Peer → Option Incarnation
+incarnation_if_present peer = cond peer.present (Some peer.incarnation) None
+
+-- and that of peer i
+unfoldable pub peer_of : List Peer → ℕ → Option Incarnation
+peer_of peers i = incarnation_if_present (get_or peers i no_peer)
 
 -- how many are counted, or asked
-unfoldable pub count_peers : List (Option Incarnation) → ℕ
-count_peers peers = count_by is_some peers
+unfoldable pub count_peers : List Peer → ℕ
+count_peers peers = count_by (λ peer. peer.present) peers
 
 -- fewer than f are counted: not yet "At f counted", "At f"
 abbrev pub below_half : Node → Bool
@@ -107,7 +120,7 @@ with_row node i row = record node { rows = set node.rows i row }
 
 -- peer i is counted, under this incarnation
 unfoldable pub with_counted : Node → ℕ → Incarnation → Node
-with_counted node i incarnation = record node { counted = set node.counted i (Some incarnation) }
+with_counted node i incarnation = record node { counted = set node.counted i (peer_under incarnation) }
 
 -- "At f counted: Confirming": those counted are asked, and none is counted
 unfoldable pub confirming_begun : Node → Phase → Node

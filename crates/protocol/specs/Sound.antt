@@ -1,15 +1,15 @@
 -- When a node is sound at its place (document 01, Message store): "each with its place as number, this n, and unused
 -- fields zero; those it counted are below n, not itself, and fewer than f (Storing, Confirming) or f+1 (Fetching); those
 -- asked to confirm are exactly f others below n, and the counted are among them."
-use Rattle.std.specs.Prelude.{ℕ, suc, Bool, true, cond, not, ◌&&◌, List, [], ◌∷◌, ltb, eqb, Option, Some, None, is_some}
+use Rattle.std.specs.Prelude.{ℕ, suc, Bool, true, cond, not, ◌&&◌, List, [], ◌∷◌, ltb, eqb, is_some}
 use Rattle.item.specs.Counter.{same_incarnation, same_attempt}
 use Rattle.item.specs.Row.{zero_row, same_row}
 use Rattle.item.specs.declared.counters.Attempt.{Attempt}
-use Rattle.item.specs.declared.counters.Incarnation.{Incarnation}
 use Rattle.item.specs.declared.Row.{Row}
 use Rattle.protocol.specs.Node.{half, count_peers, peer_of}
 use Rattle.protocol.specs.Phase.{is_confirming}
 use Rattle.protocol.specs.declared.Node.{Node}
+use Rattle.protocol.specs.declared.Peer.{Peer}
 use Rattle.protocol.specs.declared.Phase.{Phase}
 use Rattle.protocol.specs.declared.Phase.TheVariants.{Down, Fetching, Returning, Up}
 use Rattle.protocol.specs.declared.RowUse.{RowUse}
@@ -39,10 +39,10 @@ row_fits row_uses.Stored row = not row.marked
 unfoldable pub row_sound : RowUse → ℕ → ℕ → Row → Bool
 row_sound held n k row = cond (ltb k n) (row_fits held row) (row_fits row_uses.Zero row)
 
--- "below n, not itself"; of one that is absent nothing is kept, so there is nothing to test
-unfoldable pub peer_sound : ℕ → ℕ → ℕ → Option Incarnation → Bool
-peer_sound number n k None = true
-peer_sound number n k (Some incarnation) = ltb k n && not (eqb k number)
+-- "below n, not itself"; of one that is absent nothing is kept
+unfoldable pub peer_sound : ℕ → ℕ → ℕ → Peer → Bool
+peer_sound number n k peer =
+    cond peer.present (ltb k n && not (eqb k number)) (same_incarnation peer.incarnation (record { 0 = 0 }))
 
 -- how many are counted and asked in each stage of a write
 unfoldable pub stage_counts : Stage → ℕ → ℕ → ℕ → Bool
@@ -65,17 +65,16 @@ attempt_fits (Returning stage) attempt = true
 attempt_fits (Up stage) attempt = true
 
 -- "the counted are among them", where some are asked
-unfoldable pub among_asked : List (Option Incarnation) → ℕ → Option Incarnation → Bool
-among_asked asked k None = true
-among_asked asked k (Some incarnation) = is_some (peer_of asked k)
+unfoldable pub among_asked : List Peer → ℕ → Peer → Bool
+among_asked asked k peer = cond peer.present (is_some (peer_of asked k)) true
 
-unfoldable pub counted_asked : Phase → List (Option Incarnation) → List (Option Incarnation) → Bool
+unfoldable pub counted_asked : Phase → List Peer → List Peer → Bool
 counted_asked phase counted asked = cond (is_confirming phase) (every_from (among_asked asked) 0 counted) true
 
 unfoldable pub rows_sound : ℕ → Node → Bool
 rows_sound n node = every_from (row_sound (row_use node.phase (count_peers node.counted)) n) 0 node.rows
 
-unfoldable pub peers_sound : ℕ → ℕ → List (Option Incarnation) → Bool
+unfoldable pub peers_sound : ℕ → ℕ → List Peer → Bool
 peers_sound number n peers = every_from (peer_sound number n) 0 peers
 
 unfoldable pub sound_node : ℕ → ℕ → Node → Bool

@@ -5,7 +5,7 @@
 ghost use Rattle.std.specs.Prelude.{◌≡◌};
 ghost use Rattle.protocol.specs.Claim.{EveryNetworkReturn};
 ghost use Rattle.protocol.specs.Network.{NodeRefusals};
-ghost use Rattle.protocol.specs.Node.{blank_node};
+ghost use Rattle.protocol.specs.Node.{blank_node, no_peer};
 
 use item::{Attempt, Incarnation, Item, Row, Tag};
 use message::Message;
@@ -31,6 +31,14 @@ pub enum Phase {
     Up(Stage),
 }
 
+// What a node notes of another node that it counts or asks: whether it does, and under which incarnation.
+// Kept: a flag and a number; an `Option` would leave out tables that a host may lend and that are refused with 3.
+#[derive(Clone, Copy)]
+pub struct Peer {
+    pub present: bool,
+    pub incarnation: Incarnation,
+}
+
 // One node of a group. Whatever its phase has no use for is zero.
 #[derive(Clone, Copy)]
 pub struct Node {
@@ -46,9 +54,9 @@ pub struct Node {
     // What each node last stored here; while Fetching, the greatest items of the tables counted.
     pub rows: [Row; item::MAX_NODES],
     // The peers whose answers or tables are counted in this stage, each by the incarnation under which it is counted.
-    pub counted: [Option<Incarnation>; item::MAX_NODES],
+    pub counted: [Peer; item::MAX_NODES],
     // While Confirming, the f peers asked, each by the incarnation under which it answered Stored.
-    pub asked: [Option<Incarnation>; item::MAX_NODES],
+    pub asked: [Peer; item::MAX_NODES],
 }
 
 // Why a call is refused, by document 01's number (`refusal_number` in specs/).
@@ -135,6 +143,18 @@ pub enum Event {
     Deliver { record: u64 },
 }
 
+impl Peer {
+    // A peer that is neither counted nor asked.
+    pub fn none() -> Peer
+        ensures { result ≡ no_peer }
+    {
+        Peer {
+            present: false,
+            incarnation: Incarnation(0),
+        }
+    }
+}
+
 impl Node {
     // The blank node, Down: only number, n and incarnation remain.
     #[tactic(auto, unfolding(crate::specs::Node::blank_node))]
@@ -148,8 +168,8 @@ impl Node {
             attempt: Attempt(0),
             phase: Phase::Down,
             rows: [Row::zero(); item::MAX_NODES],
-            counted: [None; item::MAX_NODES],
-            asked: [None; item::MAX_NODES],
+            counted: [Peer::none(); item::MAX_NODES],
+            asked: [Peer::none(); item::MAX_NODES],
         }
     }
 }

@@ -1,18 +1,19 @@
 -- What the delivery of a message without rows looks at of its node.
-use Rattle.std.specs.Prelude.{ℕ, Bool, ◌&&◌, ltb, set, Option, Some}
+use Rattle.std.specs.Prelude.{ℕ, Bool, ◌&&◌, ltb, set}
 use Rattle.item.specs.Counter.{same_incarnation, same_attempt}
 use Rattle.item.specs.Item.{same_item}
 use Rattle.item.specs.declared.counters.Attempt.{Attempt}
 use Rattle.item.specs.declared.counters.Incarnation.{Incarnation}
 use Rattle.item.specs.declared.Item.{Item}
-use Rattle.protocol.specs.Node.{half, row_of, own_item, peer_of, count_peers}
+use Rattle.protocol.specs.Node.{half, row_of, own_item, peer_under, peer_of, count_peers}
 use Rattle.protocol.specs.Storing.{is_counted}
 use Rattle.protocol.specs.declared.Node.{Node}
+use Rattle.protocol.specs.declared.Peer.{Peer}
 use Rattle.sender_view.specs.declared.view.SenderView.{SenderView}
 
 -- a peer that is counted, whatever its incarnation
-abbrev pub some_peer : Option Incarnation
-some_peer = Some (record { 0 = 0 })
+abbrev pub some_peer : Peer
+some_peer = peer_under (record { 0 = 0 })
 
 -- what a node is to one sender
 unfoldable pub view_of : Node → ℕ → SenderView

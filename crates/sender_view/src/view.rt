@@ -6,7 +6,7 @@ ghost use Rattle.sender_view.specs.View.{some_peer, view_of, own_write_in};
 
 use item::{Attempt, Incarnation, Item, Row};
 use node::{count_peers, is_counted, own_item, peer_of, row_of};
-use protocol::{Node, Phase};
+use protocol::{Node, Peer, Phase};
 
 // What a node is to one sender.
 #[derive(Clone, Copy)]
@@ -30,11 +30,14 @@ pub struct SenderView {
 }
 
 // How many are counted with the sender.
-fn count_with(mut peers: [Option<Incarnation>; item::MAX_NODES], sender: usize) -> usize
+fn count_with(mut peers: [Peer; item::MAX_NODES], sender: usize) -> usize
     ensures { result ≡ count_peers (set peers sender some_peer) }
 {
     if sender < item::MAX_NODES {
-        peers[sender] = Some(Incarnation(0));
+        peers[sender] = Peer {
+            present: true,
+            incarnation: Incarnation(0),
+        };
     }
     count_peers(&peers)
 }

@@ -5,9 +5,8 @@ use Rattle.std.proofs.Common.{rules, tests}
 use Rattle.std.proofs.lemmas.Iterator.{YieldsList-from_slice}
 use Rattle.std.proofs.lemmas.Iterator.Consumers.{YieldsList-from_enumerate}
 use Rattle.std.proofs.lemmas.Iterator.Search.{all_from_yields_List}
-use Rattle.std.specs.Prelude.{Option}
 use Rattle.item.proofs.Tests.{granted}
-use Rattle.item.specs.declared.counters.Incarnation.{Incarnation}
+use Rattle.protocol.specs.declared.Peer.{Peer}
 use Rattle.protocol.specs.Sound.{among_asked, counted_asked}
 use Rattle.node_sound.proofs.Every.{every_enumerated}
 use Rattle.node_sound.proofs.counted_asked.Goals as goal
@@ -17,7 +16,7 @@ unfolding counted_asked
 returns c =
     let asked = c.args.asked.now in
     let counted = c.args.counted.now in
-    all_from_yields_List (λ (p : ℕ × Option Incarnation). among_asked asked p.0 p.1) _ _ c.all.result c.all.ensures.ran
+    all_from_yields_List (λ (p : ℕ × Peer). among_asked asked p.0 p.1) _ _ c.all.result c.all.ensures.ran
     (YieldsList-from_enumerate (YieldsList-from_slice counted (cc)) (cc)) (λ x b q k. search (rules, tests))
     ∙ every_enumerated (among_asked asked) 0 counted
     ∙ rw (granted c.is_confirming.ensures c.if-not-is_confirming.false-raw)
