@@ -24,16 +24,20 @@ fn no_marks(rows: &[Row; item::MAX_NODES]) -> bool
 }
 
 // Whether nobody is among these peers.
+// Kept: each peer by value (`copied`), so that the compiler joins whole peers; where a peer is lent it gathers field by field.
 fn no_peers(peers: &[Peer; item::MAX_NODES]) -> bool
     ensures { result ≡ list_all absent peers.now }
 {
-    peers.iter().fold(true, |all, peer| all & is_absent(peer))
+    peers
+        .iter()
+        .copied()
+        .fold(true, |all, peer| all & is_absent(peer))
 }
 
 // Whether the peer is neither counted nor asked, and nothing is kept of it.
 #[tactic(auto, unfolding(item::specs::Counter::same_incarnation))]
-fn is_absent(peer: &Peer) -> bool
-    ensures { result ≡ absent peer.now }
+fn is_absent(peer: Peer) -> bool
+    ensures { result ≡ absent peer }
 {
     !peer.present & (peer.incarnation == Incarnation(0))
 }
